@@ -1,0 +1,21 @@
+-- What a call leaves, by its answer: a refused call leaves what was lent, and one that is done leaves the new numbers. Assumes nothing.
+use mathlib.Core.Path.{_≡_, refl, sym, ap, _∙_}
+use mathlib.Core.Bool.{Bool, true, false}
+use Prim.Native.Nat.{ℕ, _≤_}
+use native.Mathlib.Omega.{arith}
+use lib.Dec.{eqb}
+use borrow.Author.Tests.{ne-eqb}
+use Rattle.answers.specs.declared.Answer.{Answer}
+use Rattle.answers.specs.Answers.{numberOf, isDone, settled}
+
+-- a number that is not 0 is no "done"
+pub not-done : (v : Answer) → 1 ≤ numberOf v → isDone v ≡ false
+not-done v h = ne-eqb (numberOf v) 0 (λ (e : numberOf v ≡ 0). omega arith)
+
+-- The law behind every public function: a call refused with 1, 2 or 3 leaves each lent buffer as lent.
+pub refused-keeps : {A : Type 0} (v : Answer) (new old : A) → 1 ≤ numberOf v → numberOf v ≤ 3 → settled v new old ≡ old
+refused-keeps v new old l h = rw (not-done v l)
+
+-- in the branch of a public function where `is_done` said b of its answer v, and b is true, the definition's answer w is done
+pub accepted : {v w : Answer} {b : Bool} → v ≡ w → b ≡ isDone v → b ≡ true → isDone w ≡ true
+accepted e d t = ap isDone (sym e) ∙ sym d ∙ t

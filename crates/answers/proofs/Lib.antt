@@ -1,0 +1,5 @@
+-- Laws that belong to no one function.
+pub mod Kept
+pub mod Shorter
+pub mod Table
+pub mod Fit

@@ -1,0 +1,4 @@
+-- Laws that belong to no one function.
+mod Digits
+pub mod Unique
+pub mod Examples

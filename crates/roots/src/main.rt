@@ -1,0 +1,23 @@
+// Replays a list of square roots from standard input, bit for bit. A line is `aaaaaaaa rrrrrrrr`,
+// the bit patterns of an argument and of its root in hexadecimal, or a comment that starts with
+// '#'. Writes `N compared, M differ` and `B bad lines`, and before them the first few lines that
+// differ, with what was found, and the first few bad ones.
+mod line;
+mod pattern;
+mod print;
+mod tally;
+
+use libc::STDIN_FILENO;
+
+// An input that fills the buffer may have been cut off, so that counts as a difference.
+fn main() {
+    let mut space = [0u8; 524288];
+    let n = io::read_full(STDIN_FILENO, &mut space);
+    let t = tally::replay(&space[..n]);
+    if n < 524288 {
+        print::counts(t);
+    } else {
+        print::too_long();
+        print::counts(t.cut_off());
+    }
+}
