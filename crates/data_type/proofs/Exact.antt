@@ -155,13 +155,13 @@ gap a b = go (ltb a b) (ltb→lt a b)
     go true h = let l : a < b = h tt in omega arith
     go false h = omega arith
 
-abs-add : (a b : ℤ) → natAbs (a +ℤ b) ≤ natAbs a + natAbs b
+pub abs-add : (a b : ℤ) → natAbs (a +ℤ b) ≤ natAbs a + natAbs b
 abs-add (pos a) (pos b) = le-refl (a + b)
 abs-add (pos a) (negsuc b) = gap a (suc b)
 abs-add (negsuc a) (pos b) = let h : natAbs (subℕ b (suc a)) ≤ b + suc a = gap b (suc a) in le-trans h (le-of-eq (add-comm b (suc a)))
 abs-add (negsuc a) (negsuc b) = omega arith
 
-sum-abs : (z : ℤ) (g : ℕ → ℤ) (n : ℕ) → natAbs (sumℤ z g n) ≤ natAbs z + absSum g n
+pub sum-abs : (z : ℤ) (g : ℕ → ℤ) (n : ℕ) → natAbs (sumℤ z g n) ≤ natAbs z + absSum g n
 unfolding sumℤ absSum
 sum-abs z g zero = omega arith
 sum-abs z g (suc n) = let h = abs-add (sumℤ z g n) (g n) in let k = sum-abs z g n in omega arith

@@ -11,4 +11,3 @@ mod Cases
 pub mod Same
 pub mod Exact
 pub mod Sums
-pub mod Examples

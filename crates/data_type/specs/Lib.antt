@@ -5,4 +5,3 @@ pub mod Nearer
 pub mod Pattern
 pub mod Sums
 pub mod Whole
-pub mod Examples

@@ -1,0 +1,23 @@
+-- What the steps of the decomposition leave: the contracts of the functions below the public one. Definitions only.
+use mathlib.Core.Bool.{cond, _&&_}
+use Prim.Native.Nat.{ℕ}
+use lib.Dec.{eqb, ltb}
+use lib.Ieee.{Float, Format, mul}
+use Rattle.data_type.specs.Sums.{plus0}
+use Rattle.row_major.specs.Grid.{withCell}
+use Rattle.cholesky.specs.declared.Pivot.{Pivot}
+use Rattle.cholesky.specs.declared.Pivot.the-variants.{Accepted, Refused}
+use Rattle.cholesky.specs.Decomposition.{below, factor, reached, refusedAt}
+
+-- the entries after column i, by its pivot
+abbrev pub stored : Format → (ℕ → ℕ → Float) → ℕ → Float → Pivot → ℕ → ℕ → Float
+stored f e i d (Accepted r q) = below f (withCell e i i r) i q
+stored f e i d (Refused s) = withCell e i i (mul f s d)
+
+-- the entries after the last column, or after the refusal
+abbrev pub swept : Format → ℕ → (ℕ → ℕ → Float) → ℕ → ℕ → Float
+swept f n e = cond (ltb (reached f n e) n) (refusedAt f e (reached f n e)) (factor f e n)
+
+-- column i above the diagonal +0
+abbrev pub clearColumn : (ℕ → ℕ → Float) → ℕ → ℕ → ℕ → Float
+clearColumn e i r c = cond (eqb c i && ltb r i) plus0 (e r c)

@@ -1,0 +1,23 @@
+// The work of the decomposition, for callers that have tested size and buffer.
+ghost use mathlib.Core.Path.{_≡_};
+ghost use Prim.Native.Nat.{_*_, _≤_};
+ghost use lib.ListN.{length};
+ghost use lib.Ieee.{binary32};
+ghost use Rattle.row_major.specs.Grid.{grid, cell};
+ghost use Rattle.cholesky.specs.Decomposition.{reached, decomposed};
+use crate::columns;
+use crate::upper;
+
+// t becomes its lower factor, and n comes back; or the index of the pivot that is refused.
+pub fn decompose_cells(n: usize, t: &mut [f32]) -> usize
+    requires { ⌜ n * n ≤ length (now t) ⌝ }
+    ensures index { λ r. ⌜ r ≡ reached binary32 n (cell n (now (t .entry))) ⌝ }
+    ensures after { λ _. ⌜ now (t .exit) ≡ grid n n (decomposed binary32 n (cell n (now (t .entry)))) (now (t .entry)) ⌝ }
+{
+    let i = columns::fill_columns(n, t);
+    if i < n {
+        return i;
+    }
+    upper::clear_upper(n, t);
+    i
+}

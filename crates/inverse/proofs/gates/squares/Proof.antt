@@ -1,0 +1,21 @@
+-- `gates::squares` meets its contract: the tests are those of the definition, in its order. Assumes nothing.
+use borrow.Author.Needs.{needs}
+use Rattle.inverse.specs.Promise.{squaresAnswer}
+use Rattle.inverse.proofs.gates.squares.Statement.{statement}
+use Rattle.inverse.proofs.gates.squares.Tie as tie
+
+then-size-requires : tie.Need-then-size-requires
+then-size-requires c κs = search needs
+
+then-matrix-requires : tie.Need-then-matrix-requires
+then-matrix-requires c κs = search needs
+
+then-matrix-requires-2 : tie.Need-then-matrix-requires-2
+then-matrix-requires-2 c κs = search needs
+
+returns : tie.Need-returns
+unfolding squaresAnswer
+returns c = simp (c .then-matrix2 .ensures, c .before .then-matrix .ensures, c .before .before .then-size .ensures)
+
+pub squares-spec : {M : Type 1} → statement M
+squares-spec = tie.close (tie.spec then-size-requires then-matrix-requires then-matrix-requires-2 returns)

@@ -1,0 +1,18 @@
+// The work of the inverse, for callers that have tested size and buffers.
+ghost use mathlib.Core.Path.{_≡_};
+ghost use Prim.Native.Nat.{_*_, _≤_};
+ghost use lib.ListN.{length};
+ghost use lib.Ieee.{binary32};
+ghost use Rattle.row_major.specs.Grid.{grid, cell};
+ghost use Rattle.inverse.specs.Inverse.{inverse};
+use crate::first_pass;
+use crate::second_pass;
+
+// inv becomes the inverse of the matrix whose lower factor is l.
+pub fn invert_cells(n: usize, l: &[f32], inv: &mut [f32])
+    requires { ⌜ (n * n ≤ length (now l)) × (n * n ≤ length (now inv)) ⌝ }
+    ensures { λ _. ⌜ now (inv .exit) ≡ grid n n (inverse binary32 n (cell n (now (l .entry))) (cell n (now (inv .entry)))) (now (inv .entry)) ⌝ }
+{
+    first_pass::solve(n, l, inv);
+    second_pass::solve_back(n, l, inv);
+}

@@ -1,0 +1,9 @@
+// The inverse of a matrix from its lower Cholesky factor.
+pub mod cores;
+mod dots;
+mod first_pass;
+mod gates;
+mod invert;
+mod second_pass;
+
+pub use invert::invert_l_cholesky;

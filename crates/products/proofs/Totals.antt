@@ -1,0 +1,51 @@
+-- A loop that adds up n terms in their order, from a given start or from the first term: what holds before each turn, that a turn keeps it, and what it leaves. Assumes nothing.
+use mathlib.Core.Path.{_≡_, refl, sym, ap, _∙_}
+use Prim.Native.Nat.{ℕ, _+_, _<_, _≤_}
+use native.Mathlib.Omega.{arith}
+use lib.Ieee.{Float, Format, binary32, ofBits, add}
+use Rattle.data_type.specs.Sums.{plus0, sumFrom, sumFirst}
+use Rattle.data_type.proofs.Sums.{sum-next, first-next}
+
+-- the bits of +0 are all 0
+pub zero-bits : ofBits binary32 0 ≡ plus0
+unfolding ofBits
+zero-bits = refl
+
+-- k of the n terms are added to the start
+pub record Adding (f : Format) (start : Float) (t : ℕ → Float) (n : ℕ) (total : Float) (k : ℕ) : Type 0 where
+  pub within : k ≤ n
+  pub so-far : total ≡ sumFrom f start t k
+
+module _ (f : Format) (start : Float) (t : ℕ → Float) (n : ℕ) where
+  -- before the first turn the total is the start
+  pub begun : (total : Float) → total ≡ start → Adding f start t n total 0
+  unfolding sumFrom
+  begun total e = record { within = omega arith; so-far = e }
+
+  -- a turn adds the next term
+  pub added : (total : Float) (k : ℕ) → Adding f start t n total k → k < n → Adding f start t n (add f total (t k)) (k + 1)
+  added total k h l = record { within = omega arith; so-far = ap (λ (s : Float). add f s (t k)) (h .so-far) ∙ sym (sum-next f start t k) }
+
+  -- after the last turn the total is the sum
+  pub all-added : (total : Float) (k : ℕ) → Adding f start t n total k → n ≤ k → total ≡ sumFrom f start t n
+  all-added total k h l = let e : k ≡ n = omega (arith, h .within) in h .so-far ∙ ap (sumFrom f start t) e
+
+-- k of the n terms are added up, the first without a start
+pub record AddingOn (f : Format) (t : ℕ → Float) (n : ℕ) (total : Float) (k : ℕ) : Type 0 where
+  pub some : 0 < k
+  pub within : k ≤ n
+  pub so-far : total ≡ sumFirst f t k
+
+module _ (f : Format) (t : ℕ → Float) (n : ℕ) where
+  -- before the first turn the total is the first term
+  pub begun-on : (total : Float) → 1 ≤ n → total ≡ t 0 → AddingOn f t n total 1
+  unfolding sumFrom
+  begun-on total l e = record { some = omega arith; within = l; so-far = e }
+
+  -- a turn adds the next term
+  pub added-on : (total : Float) (k : ℕ) → AddingOn f t n total k → k < n → AddingOn f t n (add f total (t k)) (k + 1)
+  added-on total k h l = record { some = omega arith; within = omega arith; so-far = ap (λ (s : Float). add f s (t k)) (h .so-far) ∙ sym (first-next f t k (h .some)) }
+
+  -- after the last turn the total is the sum
+  pub all-added-on : (total : Float) (k : ℕ) → AddingOn f t n total k → n ≤ k → total ≡ sumFirst f t n
+  all-added-on total k h l = let e : k ≡ n = omega (arith, h .within) in h .so-far ∙ ap (sumFirst f t) e

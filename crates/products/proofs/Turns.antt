@@ -1,0 +1,177 @@
+-- Loops that write a row four cells at a time and then one by one, and loops that write row after row: what holds before each turn, that a turn keeps it,
+-- and what they leave. Assumes nothing.
+use mathlib.Core.Path.{_≡_, refl, sym, ap, _∙_}
+use mathlib.Core.List.{List}
+use Prim.Native.Nat.{ℕ, _+_, _*_, _<_, _≤_}
+use native.Mathlib.Nat.{zero-add, le-refl, mul-le-mul, mul-le-mul-right}
+use native.Mathlib.Numerals.{add-one}
+use native.Mathlib.Omega.{arith}
+use lib.ListN.{length, getD, set, length-set}
+use lib.Ieee.{Float, Format, nan, add, mul}
+use Rattle.row_major.specs.Grid.{cell, run, grid}
+use Rattle.row_major.proofs.Grids.{row-in, run-past, run-ext, length-run, grid-past}
+use Rattle.row_major.proofs.Loops.{Writing, written, all-written}
+
+-- ---- places
+
+-- four rows of w numbers from r on lie within a buffer of len numbers, and their count is small
+pub record FourIn (w r len : ℕ) : Type 0 where
+  pub count : r + 4 ≤ len
+  pub first : r * w + w ≤ len
+  pub second : (r + 1) * w + w ≤ len
+  pub third : (r + 2) * w + w ≤ len
+  pub fourth : (r + 3) * w + w ≤ len
+
+pub four-in : (w r len : ℕ) → 1 ≤ w → (r + 4) * w ≤ len → FourIn w r len
+four-in w r len some h = record {
+  count = omega (arith, mul-le-mul (le-refl (r + 4)) some);
+  first = omega (arith, row-in (r + 4) w r (omega arith));
+  second = omega (arith, row-in (r + 4) w (r + 1) (omega arith));
+  third = omega (arith, row-in (r + 4) w (r + 2) (omega arith));
+  fourth = omega (arith, row-in (r + 4) w (r + 3) (omega arith));
+}
+
+-- four rows that a loop counts lie within a matrix of so many rows
+pub rows-in : (rows w r : ℕ) → r + 4 ≤ rows → (r + 4) * w ≤ rows * w
+rows-in rows w r h = mul-le-mul-right w h
+
+-- ---- one row
+
+-- the buffer l with four numbers in four cells from p upward
+abbrev pub put4 : List Float → ℕ → Float → Float → Float → Float → List Float
+put4 l p t0 t1 t2 t3 = set (set (set (set l p t0) (p + 1) t1) (p + 2) t2) (p + 3) t3
+
+-- a cell that is still to be written is as it was
+pub unread-at : {at n : ℕ} {g : ℕ → Float} {l₀ l : List Float} {j : ℕ} → Writing at n g l₀ l j → (i : ℕ) → j ≤ i → getD l (at + i) nan ≡ getD l₀ (at + i) nan
+unread-at {at} {n} {g} {l₀} {l} {j} w i h = ap (λ (k : List Float). getD k (at + i) nan) (w .so-far) ∙ run-past at j g l₀ (at + i) (omega arith)
+
+-- one cell more, at its place p
+pub one-more :
+    {at n : ℕ} {g : ℕ → Float} {l₀ l : List Float} {j p j' : ℕ} {v : Float} → Writing at n g l₀ l j → j < n → p ≡ at + j → j' ≡ j + 1 → v ≡ g j
+    → Writing at n g l₀ (set l p v) j'
+one-more {at} {n} {g} {l₀} {l} {j} w h e s q = rw (e, q, s) (written at n g l₀ l j w h)
+
+-- four cells more, from their place p upward
+pub four-more :
+    {at n : ℕ} {g : ℕ → Float} {l₀ l l' : List Float} {j p : ℕ} {t0 t1 t2 t3 : Float} → Writing at n g l₀ l j → j + 4 ≤ n → p ≡ at + j
+    → t0 ≡ g j → t1 ≡ g (j + 1) → t2 ≡ g (j + 2) → t3 ≡ g (j + 3) → l' ≡ put4 l p t0 t1 t2 t3
+    → Writing at n g l₀ l' (j + 4)
+four-more {at} {n} {g} {l₀} {l} {l'} {j} {p} w h e q0 q1 q2 q3 q =
+    let w1 : Writing at n g l₀ _ (j + 1) = one-more w (omega arith) e refl q0 in
+    let w2 : Writing at n g l₀ _ (j + 2) = one-more {p = p + 1} w1 (omega arith) (omega arith) (omega arith) q1 in
+    let w3 : Writing at n g l₀ _ (j + 3) = one-more {p = p + 2} w2 (omega arith) (omega arith) (omega arith) q2 in
+    let w4 : Writing at n g l₀ _ (j + 4) = one-more {p = p + 3} w3 (omega arith) (omega arith) (omega arith) q3 in
+    rw q w4
+
+-- From j₀ on: a loop that goes on writing where another stopped knows the buffer as it was then, l₀, and says for any z that what the first wrote over z is written on.
+-- The numbers may depend on z, as where they are added to it.
+pub record Onward (at n : ℕ) (g : List Float → ℕ → Float) (l₀ : List Float) (j₀ : ℕ) (l : List Float) (j : ℕ) : Type 0 where
+  pub within : j ≤ n
+  pub size : length l ≡ length l₀
+  pub goes-on : (z : List Float) → Writing at n (g z) z l₀ j₀ → Writing at n (g z) z l j
+
+pub onward : {at n : ℕ} {g : List Float → ℕ → Float} {l₀ : List Float} {j₀ : ℕ} → j₀ ≤ n → Onward at n g l₀ j₀ l₀ j₀
+onward h = record { within = h; size = refl; goes-on = λ z w. w }
+
+-- one cell more, at its place p
+pub one-onward :
+    {at n : ℕ} {g : List Float → ℕ → Float} {l₀ l : List Float} {j₀ j p : ℕ} {v : Float} → Onward at n g l₀ j₀ l j → j < n → p ≡ at + j
+    → ((z : List Float) → Writing at n (g z) z l j → v ≡ g z j)
+    → Onward at n g l₀ j₀ (set l p v) (j + 1)
+one-onward {at} {n} {g} {l₀} {l} {j₀} {j} {p} {v} o h e q = record {
+  within = omega arith;
+  size = length-set l p v ∙ o .size;
+  goes-on = λ z w. let w' = o .goes-on z w in one-more w' h e refl (q z w');
+}
+
+-- both loops together wrote the row over z
+pub all-onward : {at n : ℕ} {g : List Float → ℕ → Float} {z l₀ l : List Float} {j₀ j : ℕ} → Writing at n (g z) z l₀ j₀ → Onward at n g l₀ j₀ l j → n ≤ j → l ≡ run at n (g z) z
+all-onward {at} {n} {g} {z} {l₀} {l} {j₀} {j} w o h = all-written at n (g z) z l j (o .goes-on z w) h
+
+-- four cells more of numbers that are scaled
+pub four-scaled :
+    (f : Format) (h : ℕ → Float) (x : Float) {at n : ℕ} {l₀ l l' : List Float} {j p : ℕ} {v0 v1 v2 v3 t0 t1 t2 t3 : Float} → Writing at n (λ i. mul f (h i) x) l₀ l j
+    → j + 4 ≤ n → p ≡ at + j
+    → v0 ≡ mul f t0 x → v1 ≡ mul f t1 x → v2 ≡ mul f t2 x → v3 ≡ mul f t3 x
+    → t0 ≡ h j → t1 ≡ h (j + 1) → t2 ≡ h (j + 2) → t3 ≡ h (j + 3) → l' ≡ put4 l p v0 v1 v2 v3
+    → Writing at n (λ i. mul f (h i) x) l₀ l' (j + 4)
+four-scaled f h x w le e v0 v1 v2 v3 t0 t1 t2 t3 q = four-more w le e (v0 ∙ by t0) (v1 ∙ by t1) (v2 ∙ by t2) (v3 ∙ by t3) q
+  where
+    by : {t u : Float} → t ≡ u → mul f t x ≡ mul f u x
+    by e = ap (λ (y : Float). mul f y x) e
+
+-- ---- one row, added to what was there
+
+-- the numbers g are those of h added to the cells of z from `at` on
+abbrev pub AddedTo : Format → ℕ → (ℕ → Float) → List Float → (ℕ → Float) → Type 0
+AddedTo f at h z g = (i : ℕ) → g i ≡ add f (getD z (at + i) nan) (h i)
+
+-- where the cells begin at the front
+pub to-front : (f : Format) (h : ℕ → Float) (z : List Float) → AddedTo f 0 h z (λ i. add f (getD z i nan) (h i))
+to-front f h z i = rw zero-add
+
+-- a cell that is still to be written, with its number added
+pub cell-added :
+    (f : Format) (h : ℕ → Float) {at n : ℕ} {g : ℕ → Float} {l₀ l : List Float} {j p : ℕ} {v t : Float} → AddedTo f at h l₀ g → Writing at n g l₀ l j
+    → (i : ℕ) → j ≤ i → p ≡ at + i → v ≡ add f (getD l p nan) t → t ≡ h i → v ≡ g i
+cell-added f h {at} {n} {g} {l₀} {l} {j} {p} {v} {t} s w i le e q r = q ∙ rw (e, r, unread-at w i le) (sym (s i))
+
+-- four cells more, from their place p upward
+pub four-added :
+    (f : Format) (h : ℕ → Float) {at n : ℕ} {g : ℕ → Float} {l₀ l l' : List Float} {j p : ℕ} {v0 v1 v2 v3 t0 t1 t2 t3 : Float} → AddedTo f at h l₀ g → Writing at n g l₀ l j
+    → j + 4 ≤ n → p ≡ at + j
+    → v0 ≡ add f (getD l p nan) t0 → v1 ≡ add f (getD l (p + 1) nan) t1 → v2 ≡ add f (getD l (p + 2) nan) t2 → v3 ≡ add f (getD l (p + 3) nan) t3
+    → t0 ≡ h j → t1 ≡ h (j + 1) → t2 ≡ h (j + 2) → t3 ≡ h (j + 3) → l' ≡ put4 l p v0 v1 v2 v3
+    → Writing at n g l₀ l' (j + 4)
+four-added f h {at} {n} {g} {l₀} {l} {l'} {j} {p} s w le e v0 v1 v2 v3 t0 t1 t2 t3 q =
+    four-more w le e
+    (cell-added f h s w j (omega arith) e v0 t0)
+    (cell-added f h {p = p + 1} s w (j + 1) (omega arith) (omega arith) v1 t1)
+    (cell-added f h {p = p + 2} s w (j + 2) (omega arith) (omega arith) v2 t2)
+    (cell-added f h {p = p + 3} s w (j + 3) (omega arith) (omega arith) v3 t3)
+    q
+
+-- one cell more where another loop stopped
+pub one-added :
+    (f : Format) (h : ℕ → Float) {at n : ℕ} {g : List Float → ℕ → Float} {l₀ l : List Float} {j₀ j p : ℕ} {v t : Float} → ((z : List Float) → AddedTo f at h z (g z))
+    → Onward at n g l₀ j₀ l j → j < n → p ≡ at + j → v ≡ add f (getD l p nan) t → t ≡ h j
+    → Onward at n g l₀ j₀ (set l p v) (j + 1)
+one-added f h {at} {n} {g} {l₀} {l} {j₀} {j} s o le e q r = one-onward o le e (λ z w. cell-added f h (s z) w j (omega arith) e q r)
+
+-- ---- row after row
+
+-- r of the rows are written
+pub record Rows (rows cols : ℕ) (e : ℕ → ℕ → Float) (l₀ l : List Float) (r : ℕ) : Type 0 where
+  pub within : r ≤ rows
+  pub size : length l ≡ length l₀
+  pub so-far : l ≡ grid r cols e l₀
+
+pub no-rows : {rows cols : ℕ} {e : ℕ → ℕ → Float} {l₀ : List Float} → Rows rows cols e l₀ l₀ 0
+unfolding grid
+no-rows = record { within = omega arith; size = refl; so-far = refl }
+
+-- a row that is still to be written is as it was
+pub unread-row : {rows cols : ℕ} {e : ℕ → ℕ → Float} {l₀ l : List Float} {r : ℕ} → Rows rows cols e l₀ l r → (j : ℕ) → cell cols l r j ≡ cell cols l₀ r j
+unread-row {rows} {cols} {e} {l₀} {l} {r} w j = ap (λ (k : List Float). cell cols k r j) (w .so-far) ∙ grid-past r cols e l₀ (r * cols + j) (omega arith)
+
+-- one row more
+pub row-more :
+    {rows cols : ℕ} {e : ℕ → ℕ → Float} {l₀ l l' : List Float} {r : ℕ} {g : ℕ → Float} → Rows rows cols e l₀ l r → r < rows → l' ≡ run (r * cols) cols g l
+    → ((j : ℕ) → g j ≡ e r j)
+    → Rows rows cols e l₀ l' (r + 1)
+unfolding grid
+row-more {rows} {cols} {e} {l₀} {l} {l'} {r} {g} w h q same = record {
+  within = omega arith;
+  size = ap length q ∙ length-run (r * cols) cols g l ∙ w .size;
+  so-far = q ∙ run-ext (r * cols) cols g (e r) l (λ j lt. same j) ∙ ap (run (r * cols) cols (e r)) (w .so-far) ∙ rw add-one;
+}
+
+-- one row more where the numbers are added to what was there
+pub row-added :
+    (f : Format) (h : ℕ → ℕ → Float) {rows cols : ℕ} {l₀ l l' : List Float} {r : ℕ} → Rows rows cols (λ i j. add f (cell cols l₀ i j) (h i j)) l₀ l r → r < rows
+    → l' ≡ run (r * cols) cols (λ j. add f (cell cols l r j) (h r j)) l
+    → Rows rows cols (λ i j. add f (cell cols l₀ i j) (h i j)) l₀ l' (r + 1)
+row-added f h {rows} {cols} {l₀} {l} {l'} {r} w lt q = row-more w lt q (λ j. ap (λ (x : Float). add f x (h r j)) (unread-row w j))
+
+pub all-rows : {rows cols : ℕ} {e : ℕ → ℕ → Float} {l₀ l : List Float} {r : ℕ} → Rows rows cols e l₀ l r → rows ≤ r → l ≡ grid rows cols e l₀
+all-rows {rows} {cols} {e} {l₀} {l} {r} w h = let q : r ≡ rows = omega (arith, w .within) in w .so-far ∙ ap (λ (k : ℕ). grid k cols e l₀) q

@@ -1,0 +1,123 @@
+-- `cores::rowvector::rowvector_add_cells` meets its contract: a loop that adds to four cells a turn, and one that goes on cell by cell. Assumes nothing.
+use mathlib.Core.Path.{_≡_, refl, sym, _∙_}
+use Prim.Native.Nat.{ℕ, _-_}
+use native.Mathlib.Nat.{zero-add}
+use native.Mathlib.Omega.{arith}
+use lib.ListN.{getD}
+use denote.Ref.{now}
+use lib.Ieee.{binary32, nan, add}
+use Rattle.row_major.proofs.Grids.{row-in}
+use Rattle.row_major.proofs.Loops.{Writing, begun}
+use Rattle.products.specs.Entries.{rowProduct}
+use Rattle.products.proofs.Turns.{Onward, four-added, onward, one-added, to-front, all-onward, rows-in}
+use Rattle.products.proofs.cores.rowvector.rowvector_add_cells.Statement.{statement}
+use Rattle.products.proofs.cores.rowvector.rowvector_add_cells.Tie as tie
+
+abbrev Inv-loop : tie.InvT-loop
+Inv-loop rows inner a x c₀ r₀ c r = Writing 0 rows (λ i. add binary32 (getD c₀ i nan) (rowProduct binary32 inner a x i)) c₀ c r
+
+abbrev μ-loop : tie.MeasureT-loop
+μ-loop rows inner a x c₀ r₀ c r = rows - r
+
+abbrev Inv-loop2 : tie.InvT-loop2
+Inv-loop2 rows inner a x c₀ r₀ c r = Onward 0 rows (λ z. (λ i. add binary32 (getD z i nan) (rowProduct binary32 inner a x i))) c₀ r₀ c r
+
+abbrev μ-loop2 : tie.MeasureT-loop2
+μ-loop2 rows inner a x c₀ r₀ c r = rows - r
+
+loop-holds : tie.Need-loop-holds Inv-loop μ-loop Inv-loop2 μ-loop2
+loop-holds c = begun _ _ _ _
+
+add-loop : tie.Need-add-loop Inv-loop μ-loop Inv-loop2 μ-loop2
+add-loop c = omega arith
+
+four-from-first-requires : tie.Need-four-from-first-requires Inv-loop μ-loop Inv-loop2 μ-loop2
+four-from-first-requires c κs =
+    let m = c .before .before .before .before .before .before .args in
+    omega (arith, rows-in (m .rows) (m .inner) (c .before .before .loop .r) (c .before .loop-test .taken))
+
+added-requires : tie.Need-added-requires Inv-loop μ-loop Inv-loop2 μ-loop2
+added-requires c κs = omega arith
+
+put-requires : tie.Need-put-requires Inv-loop μ-loop Inv-loop2 μ-loop2
+put-requires c κs = omega arith
+
+add-r : tie.Need-add-r Inv-loop μ-loop Inv-loop2 μ-loop2
+add-r c = omega arith
+
+loop-less : tie.Need-loop-less Inv-loop μ-loop Inv-loop2 μ-loop2
+loop-less c = omega arith
+
+loop-again : tie.Need-loop-again Inv-loop μ-loop Inv-loop2 μ-loop2
+loop-again c =
+    let m = c .before .before .before .before .before .before .before .before .before .before .before .before .args in
+    let h = rowProduct binary32 (m .inner) (now (m .a)) (now (m .x)) in
+    let t = c .before .before .before .before .before .four-from-first .ensures in
+    let s = c .before .before .before .before .added .ensures in
+    four-added binary32 h (to-front binary32 h (now (m .c))) (c .before .before .before .before .before .before .before .before .loop .inv) (c .before .before .before .before .before .before .before .loop-test .taken) (sym (zero-add _)) (s .0) (s .1) (s .2) (s .3) (t .0) (t .1) (t .2) (t .3) (c .before .before .put .ensures)
+
+loop2-holds : tie.Need-loop2-holds Inv-loop μ-loop Inv-loop2 μ-loop2
+loop2-holds c = onward (c .before .loop .inv .within)
+
+mul-c : tie.Need-mul-c Inv-loop μ-loop Inv-loop2 μ-loop2
+mul-c c = omega arith
+
+slice-read-c : tie.Need-slice-read-c Inv-loop μ-loop Inv-loop2 μ-loop2
+slice-read-c c = omega arith
+
+total-from-first-requires : tie.Need-total-from-first-requires Inv-loop μ-loop Inv-loop2 μ-loop2
+total-from-first-requires c κs =
+    let m = c .before .before .before .before .before .before .before .before .args in
+    omega (arith, row-in (m .rows) (m .inner) (c .before .before .loop2 .r) (c .before .loop2-test .taken))
+
+mul-c-2 : tie.Need-mul-c-2 Inv-loop μ-loop Inv-loop2 μ-loop2
+mul-c-2 c = omega arith
+
+slice-write-c : tie.Need-slice-write-c Inv-loop μ-loop Inv-loop2 μ-loop2
+slice-write-c c = omega arith
+
+add-r-2 : tie.Need-add-r-2 Inv-loop μ-loop Inv-loop2 μ-loop2
+add-r-2 c = omega arith
+
+loop2-less : tie.Need-loop2-less Inv-loop μ-loop Inv-loop2 μ-loop2
+loop2-less c = omega arith
+
+loop2-again : tie.Need-loop2-again Inv-loop μ-loop Inv-loop2 μ-loop2
+loop2-again c =
+    let m = c .before .before .before .before .before .before .before .before .before .args in
+    let h = rowProduct binary32 (m .inner) (now (m .a)) (now (m .x)) in
+    one-added binary32 h (to-front binary32 h) (c .before .before .before .loop2 .inv) (c .before .before .loop2-test .taken) (sym (zero-add _)) refl (c .total-from-first .ensures)
+
+same-length : tie.Need-same-length Inv-loop μ-loop Inv-loop2 μ-loop2
+same-length c = c .before .loop2 .inv .size ∙ c .before .before .before .loop .inv .size
+
+returns : tie.Need-returns Inv-loop μ-loop Inv-loop2 μ-loop2
+returns c = all-onward (c .before .before .before .loop .inv) (c .before .loop2 .inv) (c .loop2-test .left)
+
+pub rowvector-add-cells-spec : {M : Type 1} → statement M
+rowvector-add-cells-spec =
+    tie.close
+    (tie.spec
+    Inv-loop
+    μ-loop
+    Inv-loop2
+    μ-loop2
+    loop-holds
+    add-loop
+    four-from-first-requires
+    added-requires
+    put-requires
+    add-r
+    loop-less
+    loop-again
+    loop2-holds
+    mul-c
+    slice-read-c
+    total-from-first-requires
+    mul-c-2
+    slice-write-c
+    add-r-2
+    loop2-less
+    loop2-again
+    same-length
+    returns)

@@ -1,0 +1,75 @@
+-- `cores::transb::row_total` meets its contract: a loop that adds the entry's terms to +0, k of them before turn k. Assumes nothing.
+use mathlib.Core.Path.{_≡_}
+use Prim.Native.Nat.{ℕ, _-_}
+use native.Mathlib.Omega.{arith}
+use lib.Ieee.{binary32}
+use Rattle.data_type.specs.Sums.{plus0, products}
+use Rattle.row_major.specs.Grid.{cell}
+use Rattle.products.proofs.Totals.{Adding, zero-bits, begun, added, all-added}
+use Rattle.products.proofs.cores.transb.row_total.Statement.{statement}
+use Rattle.products.proofs.cores.transb.row_total.Tie as tie
+
+abbrev Inv-loop : tie.InvT-loop
+Inv-loop inner a b r j left right total₀ k₀ total k = Adding binary32 plus0 (products binary32 (cell inner a r) (cell inner b j)) inner total k
+
+abbrev μ-loop : tie.MeasureT-loop
+μ-loop inner a b r j left right total₀ k₀ total k = inner - k
+
+mul-left : tie.Need-mul-left Inv-loop μ-loop
+mul-left c = omega arith
+
+mul-right : tie.Need-mul-right Inv-loop μ-loop
+mul-right c = omega arith
+
+loop-holds : tie.Need-loop-holds Inv-loop μ-loop
+loop-holds c = begun _ _ _ _ _ zero-bits
+
+add-total : tie.Need-add-total Inv-loop μ-loop
+add-total c = omega arith
+
+mul-total : tie.Need-mul-total Inv-loop μ-loop
+mul-total c = omega arith
+
+shared-slice-read-total : tie.Need-shared-slice-read-total Inv-loop μ-loop
+shared-slice-read-total c = omega arith
+
+add-total-2 : tie.Need-add-total-2 Inv-loop μ-loop
+add-total-2 c = omega arith
+
+mul-total-2 : tie.Need-mul-total-2 Inv-loop μ-loop
+mul-total-2 c = omega arith
+
+shared-slice-read-total-2 : tie.Need-shared-slice-read-total-2 Inv-loop μ-loop
+shared-slice-read-total-2 c = omega arith
+
+add-k : tie.Need-add-k Inv-loop μ-loop
+add-k c = omega arith
+
+loop-less : tie.Need-loop-less Inv-loop μ-loop
+loop-less c = omega arith
+
+loop-again : tie.Need-loop-again Inv-loop μ-loop
+loop-again c = added _ _ _ _ _ _ (c .before .before .before .loop .inv) (c .before .before .loop-test .taken)
+
+returns : tie.Need-returns Inv-loop μ-loop
+returns c = all-added _ _ _ _ _ _ (c .before .loop .inv) (c .loop-test .left)
+
+pub row-total-spec : {M : Type 1} → statement M
+row-total-spec =
+    tie.close
+    (tie.spec
+    Inv-loop
+    μ-loop
+    mul-left
+    mul-right
+    loop-holds
+    add-total
+    mul-total
+    shared-slice-read-total
+    add-total-2
+    mul-total-2
+    shared-slice-read-total-2
+    add-k
+    loop-less
+    loop-again
+    returns)

@@ -1,0 +1,13 @@
+// The work of the products, for callers that have tested sizes and buffers. Every sum has the start
+// and the order of its definition; four sums run side by side, so that none waits for another.
+mod mult;
+mod rowvector;
+mod transb;
+
+pub use mult::first_column;
+pub use mult::mult_cells;
+pub use rowvector::rowvector_add_cells;
+pub use rowvector::rowvector_cells;
+pub use transb::transb_add_cells;
+pub use transb::transb_cells;
+pub use transb::transb_scale_cells;

@@ -1,0 +1,22 @@
+-- `gates::column_copy` meets its contract: the tests are those of the definition, in its order. Assumes nothing.
+use borrow.Author.Needs.{needs}
+use Rattle.row_major.specs.Cells.{matrixAnswer, columnCopyAnswer}
+use Rattle.row_major.proofs.gates.column_copy.Statement.{statement}
+use Rattle.row_major.proofs.gates.column_copy.Tie as tie
+
+matrix-requires : tie.Need-matrix-requires
+matrix-requires c κs = search needs
+
+then-buffer-requires : tie.Need-then-buffer-requires
+then-buffer-requires c κs = search needs
+
+then-place-requires : tie.Need-then-place-requires
+then-place-requires c κs = search needs
+
+returns : tie.Need-returns
+unfolding matrixAnswer columnCopyAnswer
+returns c = simp (c .then-place .ensures, c .before .then-buffer .ensures, c .before .before .matrix .ensures)
+
+pub column-copy-spec : {M : Type 1} → statement M
+column-copy-spec =
+    tie.close (tie.spec matrix-requires then-buffer-requires then-place-requires returns)

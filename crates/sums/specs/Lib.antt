@@ -1,0 +1,2 @@
+-- The definitions that the contracts cite: what the sums and differences promise.
+pub mod Sums

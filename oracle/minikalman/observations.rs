@@ -1,0 +1,2 @@
+#[path = "../../target/oracle/files/observations/regular.rs"]
+pub mod regular;

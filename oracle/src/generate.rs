@@ -1,0 +1,654 @@
+//! Which calls a list holds. A line depends on the seed, its function and how many lines of that
+//! function came before it, so that a list of fewer functions holds the same lines of those.
+
+use crate::calls::{Call, Function, Places, ALL};
+use crate::inputs::{mark, number, numbers, shape, symmetric, Kind, Random, Shape, KINDS};
+use crate::model;
+
+/// No buffer in a list has more numbers.
+pub const LONGEST: usize = 300;
+
+/// How sizes are spread.
+#[derive(Clone, Copy, PartialEq, Eq)]
+pub enum Plan {
+    /// Every combination of sizes in turn: 16, 256 or 4,096 accepted lines of a function see them all.
+    Even,
+    /// Few large sizes, for a short list: see `small`.
+    Small,
+}
+
+/// How many lines of a function stand in one round of a list.
+pub fn weight(plan: Plan, f: Function) -> usize {
+    use Function::*;
+    match (plan, f) {
+        (Plan::Even, SquareRoot) => 4,
+        (Plan::Even, Get | Set | SetSymmetric | GetRowCopy | GetColumnCopy) => 2,
+        (Plan::Even, Mult | MultBuffered | MultTransb | MultaddTransb | MultscaleTransb) => 3,
+        (Plan::Even, CholeskyDecomposeLower | Correct) => 5,
+        (Plan::Even, UpdateWithInnovation | Predict) => 3,
+        (Plan::Even, InvertLCholesky) => 2,
+        (Plan::Even, _) => 1,
+        (Plan::Small, Recip) => 4,
+        (Plan::Small, SquareRoot) => 9,
+        (Plan::Small, CholeskyDecomposeLower) => 5,
+        (Plan::Small, Correct | Mult | MultBuffered | MultTransb) => 2,
+        (Plan::Small, MultaddTransb | MultscaleTransb) => 2,
+        (Plan::Small, _) => 1,
+    }
+}
+
+/// The functions of one round, spread out.
+fn round(plan: Plan, functions: &[Function]) -> Vec<Function> {
+    let most = functions
+        .iter()
+        .map(|f| weight(plan, *f))
+        .max()
+        .unwrap_or(0);
+    let mut out = vec![];
+    for pass in 0..most {
+        out.extend(functions.iter().filter(|f| weight(plan, **f) > pass))
+    }
+    out
+}
+
+pub struct Calls {
+    plan: Plan,
+    seed: u64,
+    round: Vec<Function>,
+    at: usize,
+    counts: Vec<u64>,
+}
+
+impl Calls {
+    pub fn new(plan: Plan, seed: u64, functions: &[Function]) -> Calls {
+        let round = round(plan, functions);
+        Calls {
+            plan,
+            seed,
+            round,
+            at: 0,
+            counts: vec![0; ALL.len()],
+        }
+    }
+}
+
+impl Iterator for Calls {
+    type Item = Call;
+
+    fn next(&mut self) -> Option<Call> {
+        let f = self.round[self.at % self.round.len()];
+        self.at += 1;
+        let count = self.counts[f as usize];
+        self.counts[f as usize] += 1;
+        Some(call(self.plan, self.seed, f, count))
+    }
+}
+
+/// One line in so many of a function is refused before any work.
+fn refused_every(f: Function) -> u64 {
+    if f.place_count() > 0 {
+        4
+    } else {
+        7
+    }
+}
+
+fn call(plan: Plan, seed: u64, f: Function, count: u64) -> Call {
+    let r = &mut Random::new(seed, f as u64, count);
+    let every = refused_every(f);
+    if f.sizes() > 0 && count % every == every - 1 {
+        let draw = if plan == Plan::Small { few } else { skewed };
+        let sizes: Vec<_> = (0..f.sizes()).map(|_| draw(r)).collect();
+        let mut call = accepted(r, f, sizes);
+        spoil(r, &mut call);
+        return call;
+    }
+    let turn = count - count / every;
+    let sizes = match plan {
+        Plan::Even => even(seed, f, turn),
+        Plan::Small => small(r, f, turn as usize),
+    };
+    accepted(r, f, sizes)
+}
+
+/// The turn-th combination of sizes, in an order in which all come before any comes again.
+fn even(seed: u64, f: Function, turn: u64) -> Vec<usize> {
+    let places = f.sizes() as u32;
+    let all = 1u64 << (4 * places);
+    let start = Random::new(seed, f as u64, u64::MAX).next();
+    let step = [1, 5, 101, 1657][places as usize];
+    let at = start.wrapping_add(turn.wrapping_mul(step)) % all;
+    (0..places)
+        .map(|p| (at >> (4 * p) & 15) as usize + 1)
+        .collect()
+}
+
+/// 1 to 16, mostly small.
+fn skewed(r: &mut Random) -> usize {
+    let least = (0..4).map(|_| r.below(16)).min().unwrap_or(0);
+    least + 1
+}
+
+/// In turn: the sizes of a cover in each place, beside sizes 1 and 2; for some, 16 in every place; then
+/// small sizes.
+/// A cover holds 1 to 4, 16 and every third size between, so that three neighbouring functions have all;
+/// the short ones hold all sizes, and predictions and corrections, which are long lines, fewer.
+fn small(r: &mut Random, f: Function, turn: usize) -> Vec<usize> {
+    use Function::*;
+    let places = f.sizes();
+    let long = matches!(f, Predict | PredictP | Correct | UpdateWithInnovation);
+    let all = matches!(f, CholeskyDecomposeLower | PredictX | Innovation | Mult);
+    let largest = matches!(
+        f,
+        Get | Set
+            | GetRowCopy
+            | GetColumnCopy
+            | CopyTo
+            | SetAll
+            | Mult
+            | MultRowvector
+            | MultaddRowvector
+            | Sub
+            | AddInplaceA
+            | Innovation
+            | Correct
+    );
+    let cover: Vec<usize> = (1..=16)
+        .filter(|k| match long {
+            true => [1, 2, 3, 4, 6, 9, 16].contains(k),
+            false => all || *k < 5 || *k == 16 || (k + f as usize) % 3 == 0,
+        })
+        .collect();
+    let mut sizes: Vec<_> = (0..places).map(|_| 1 + r.below(2)).collect();
+    if turn < cover.len() * places {
+        sizes[turn % places] = cover[turn / places]
+    } else if turn == cover.len() * places && places > 1 && largest {
+        sizes.fill(16)
+    } else {
+        sizes
+            .iter_mut()
+            .for_each(|s| *s = if long { 1 + skewed(r) / 3 } else { few(r) })
+    }
+    sizes
+}
+
+/// 1 to 9, mostly 1 to 3.
+fn few(r: &mut Random) -> usize {
+    1 + skewed(r) / 2
+}
+
+/// A kind for one buffer.
+fn kind(r: &mut Random) -> Kind {
+    match r.below(100) {
+        0..=20 => Kind::Ordinary,
+        21..=29 => Kind::Signs,
+        30..=41 => Kind::Bits,
+        42..=53 => Kind::Specials,
+        54..=63 => Kind::Whole,
+        64..=67 => Kind::WholeLarge,
+        68..=79 => Kind::Wide,
+        80..=85 => Kind::Tiny,
+        86..=89 => Kind::Huge,
+        _ => Kind::Mixed,
+    }
+}
+
+fn any(r: &mut Random, count: usize) -> Vec<f32> {
+    let kind = kind(r);
+    numbers(r, kind, count)
+}
+
+/// What lies in a buffer that is only written: marks, +0, or any bits.
+fn scratch(r: &mut Random, count: usize) -> Vec<f32> {
+    match r.below(4) {
+        0 => vec![0.0; count],
+        1 => (0..count).map(|_| mark(r)).collect(),
+        _ => (0..count)
+            .map(|_| f32::from_bits(r.next() as u32))
+            .collect(),
+    }
+}
+
+/// An argument of the square root or the reciprocal.
+fn argument(r: &mut Random, f: Function) -> f32 {
+    let near = |r: &mut Random, v: f32| {
+        f32::from_bits(v.to_bits().wrapping_add(r.below(7) as u32).wrapping_sub(3))
+    };
+    match r.below(10) {
+        0 | 1 => number(r, Kind::Bits),
+        2 => number(r, Kind::Specials),
+        3 => number(r, Kind::Tiny),
+        4 => {
+            let kind = r.pick(KINDS);
+            number(r, kind)
+        }
+        5 => {
+            // next to a power of two
+            let v = f32::from_bits((r.below(254) as u32 + 1) << 23);
+            near(r, v)
+        }
+        6 => {
+            // next to a square
+            let s = (1 + r.below(4095)) as f32;
+            let scale = 4f32.powi(r.below(100) as i32 - 50);
+            near(r, s * s * scale)
+        }
+        7 | 8 => {
+            // next to the square of a number halfway between two floats
+            let s = ((1u64 << 23) + r.below(1 << 23) as u64) as f64 + 0.5;
+            let scale = 4f64.powi(r.below(135) as i32 - 95);
+            near(r, (s * s * scale) as f32)
+        }
+        _ if f == Function::SquareRoot => f32::from_bits(r.next() as u32 & 0x7fff_ffff),
+        _ => number(r, Kind::Wide),
+    }
+}
+
+/// The identity plus a little: a transition as models have it.
+fn transition(r: &mut Random, n: usize) -> Vec<f32> {
+    let mut a: Vec<f32> = numbers(r, Kind::Ordinary, n * n)
+        .iter()
+        .map(|v| v * 0.0625)
+        .collect();
+    let upper = r.one_in(2);
+    for i in 0..n {
+        for j in 0..i {
+            if upper {
+                a[i * n + j] = 0.0
+            }
+        }
+        a[i * n + i] += 1.0
+    }
+    a
+}
+
+/// A lower factor, as the decomposition gives it or worse.
+fn factor(r: &mut Random, n: usize) -> Vec<f32> {
+    let mut l = match r.below(10) {
+        0..=4 => {
+            let shape = r.pick(&[
+                Shape::Good,
+                Shape::GoodWhole,
+                Shape::Diagonal,
+                Shape::Ends,
+                Shape::Nearly,
+            ]);
+            let mut l = symmetric(r, shape, n);
+            let _ = model::decompose(n, &mut l);
+            l
+        }
+        5 => {
+            // ones of either sign on the diagonal, hardly anything else
+            let mut l = numbers(r, Kind::Signs, n * n);
+            (0..n).for_each(|i| l[i * n + i] = r.pick(&[1.0, -1.0, 2.0, -0.5]));
+            l
+        }
+        6 => numbers(r, Kind::Whole, n * n),
+        7 => {
+            let mut l = numbers(r, Kind::Ordinary, n * n);
+            let i = r.below(n);
+            l[i * n + i] = number(r, Kind::Specials);
+            l
+        }
+        _ => any(r, n * n),
+    };
+    if r.one_in(3) {
+        // the upper triangle is not read
+        for i in 0..n {
+            for j in i + 1..n {
+                l[i * n + j] = f32::from_bits(r.next() as u32)
+            }
+        }
+    }
+    l
+}
+
+/// x, A, P, Q of a prediction.
+fn prediction(r: &mut Random, n: usize) -> [Vec<f32>; 4] {
+    match r.below(10) {
+        0..=3 => {
+            let q = r.pick(&[Shape::Good, Shape::Diagonal]);
+            [
+                numbers(r, Kind::Ordinary, n),
+                transition(r, n),
+                symmetric(r, Shape::Good, n),
+                symmetric(r, q, n),
+            ]
+        }
+        4 => [
+            numbers(r, Kind::Whole, n),
+            numbers(r, Kind::Whole, n * n),
+            symmetric(r, Shape::GoodWhole, n),
+            symmetric(r, Shape::GoodWhole, n),
+        ],
+        5 => {
+            let kind = kind(r);
+            [
+                numbers(r, kind, n),
+                numbers(r, kind, n * n),
+                numbers(r, kind, n * n),
+                numbers(r, kind, n * n),
+            ]
+        }
+        _ => {
+            let (p, q) = (shape(r), shape(r));
+            let a = if r.one_in(2) {
+                transition(r, n)
+            } else {
+                any(r, n * n)
+            };
+            [any(r, n), a, symmetric(r, p, n), symmetric(r, q, n)]
+        }
+    }
+}
+
+/// x, P, H, z, R of a correction.
+fn correction(r: &mut Random, n: usize, m: usize) -> [Vec<f32>; 5] {
+    let x = if r.one_in(5) {
+        any(r, n)
+    } else {
+        numbers(r, Kind::Ordinary, n)
+    };
+    let mut z = numbers(r, Kind::Ordinary, m);
+    if r.one_in(10) {
+        // a bad reading
+        let at = r.below(m);
+        z[at] = number(r, Kind::Specials)
+    }
+    let h: Vec<f32> = match r.below(3) {
+        // ones that pick states, zeros of either sign
+        0 => (0..m * n)
+            .map(|_| r.pick(&[0.0, 0.0, -0.0, 1.0, -1.0]))
+            .collect(),
+        _ => numbers(r, Kind::Ordinary, m * n),
+    };
+    match r.below(100) {
+        0..=29 => {
+            let p = r.pick(&[Shape::Good, Shape::Good, Shape::Diagonal]);
+            let noise = r.pick(&[Shape::Good, Shape::Diagonal]);
+            [x, symmetric(r, p, n), h, z, symmetric(r, noise, m)]
+        }
+        30..=39 => [
+            numbers(r, Kind::Whole, n),
+            symmetric(r, Shape::GoodWhole, n),
+            numbers(r, Kind::Whole, m * n),
+            numbers(r, Kind::Whole, m),
+            symmetric(r, Shape::GoodWhole, m),
+        ],
+        40..=51 => {
+            // S nearly singular: more readings than P has rank, and little or no noise
+            let p = symmetric(r, Shape::Nearly, n);
+            let noise = r.pick(&[0.0, 1e-9, 1e-8, 1e-7, 1e-6]);
+            let mut noises = vec![0.0; m * m];
+            for i in 0..m {
+                noises[i * m + i] = noise
+            }
+            [x, p, h, z, noises]
+        }
+        52..=63 => {
+            let p = symmetric(r, Shape::Good, n);
+            let mut noise = symmetric(r, Shape::Good, m);
+            let at = r.below(m);
+            noise[at * m + at] = -r.pick(&[1e6, 1e12, f32::MAX, f32::INFINITY]);
+            [x, p, h, z, noise]
+        }
+        64..=69 => {
+            let p = symmetric(r, Shape::Indefinite, n);
+            [x, p, h, z, symmetric(r, Shape::Diagonal, m)]
+        }
+        70..=79 => {
+            let p = symmetric(r, Shape::Good, n);
+            [x, p, h, z, symmetric(r, Shape::NanPivot, m)]
+        }
+        80..=85 => {
+            let shape = r.pick(&[Shape::Good, Shape::Damaged]);
+            [
+                x,
+                symmetric(r, shape, n),
+                h,
+                z,
+                symmetric(r, Shape::Damaged, m),
+            ]
+        }
+        86..=89 => {
+            let p = symmetric(r, Shape::Good, n);
+            let noise = r.pick(&[Shape::Infinite, Shape::Ends]);
+            [x, p, h, z, symmetric(r, noise, m)]
+        }
+        _ => {
+            let (p, noise) = (shape(r), shape(r));
+            [
+                any(r, n),
+                symmetric(r, p, n),
+                any(r, m * n),
+                any(r, m),
+                symmetric(r, noise, m),
+            ]
+        }
+    }
+}
+
+/// A call that passes refusals 1 to 3.
+fn accepted(r: &mut Random, f: Function, sizes: Vec<usize>) -> Call {
+    use Function::*;
+    let needs = f.needs(&sizes);
+    let rows = sizes.first().copied().unwrap_or(1);
+    let columns = sizes.get(1).copied().unwrap_or(rows);
+    let places = match f.places() {
+        Places::Neither => vec![],
+        Places::Row => vec![r.below(rows)],
+        Places::Column => vec![r.below(columns)],
+        Places::Both => {
+            let row = r.below(rows);
+            // now and then the diagonal
+            let column = if r.one_in(6) {
+                row.min(columns - 1)
+            } else {
+                r.below(columns)
+            };
+            vec![row, column]
+        }
+    };
+    let scalars = match f {
+        Recip | SquareRoot => vec![argument(r, f)],
+        _ => (0..f.scalars())
+            .map(|_| {
+                let kind = kind(r);
+                number(r, kind)
+            })
+            .collect(),
+    };
+    let mut lent: Vec<Vec<f32>> = match f {
+        CholeskyDecomposeLower => {
+            let shape = shape(r);
+            vec![symmetric(r, shape, sizes[0])]
+        }
+        InvertLCholesky => vec![factor(r, sizes[0]), scratch(r, needs[1])],
+        Predict | PredictX | PredictP => {
+            let [x, a, p, q] = prediction(r, sizes[0]);
+            let predicted = scratch(r, sizes[0]);
+            let temp = scratch(r, sizes[0] * sizes[0]);
+            match f {
+                Predict => vec![x, a, p, q, predicted, temp],
+                PredictX => vec![x, a, predicted],
+                _ => vec![a, p, q, temp],
+            }
+        }
+        Correct | Innovation | UpdateWithInnovation => {
+            let [x, p, h, z, noise] = correction(r, sizes[0], sizes[1]);
+            if f == Innovation {
+                vec![x, h, z, scratch(r, needs[3])]
+            } else {
+                let mut all = vec![x, p, h, z, noise];
+                let y = sizes[1];
+                all.push(if f == Correct {
+                    scratch(r, y)
+                } else {
+                    any(r, y)
+                });
+                let rest = Correct.needs(&sizes);
+                all.extend(rest[6..].iter().map(|n| scratch(r, *n)));
+                if f == UpdateWithInnovation {
+                    all.remove(3);
+                }
+                all
+            }
+        }
+        _ => {
+            // half of the lines have one kind throughout
+            let one = kind(r);
+            let alike = r.one_in(2);
+            needs
+                .iter()
+                .map(|n| {
+                    if alike {
+                        numbers(r, one, *n)
+                    } else {
+                        any(r, *n)
+                    }
+                })
+                .collect()
+        }
+    };
+    if r.one_in(2) {
+        for b in &mut lent {
+            for _ in 0..r.below(5) {
+                b.push(mark(r))
+            }
+        }
+    }
+    Call {
+        function: f,
+        sizes,
+        places,
+        scalars,
+        lent,
+    }
+}
+
+fn bad_size(r: &mut Random) -> usize {
+    r.pick(&[
+        0,
+        0,
+        0,
+        17,
+        17,
+        17,
+        18,
+        32,
+        255,
+        256,
+        65_535,
+        65_536,
+        0x1000_0000,
+        0x1000_0001,
+        0x8000_0000,
+        0xffff_fffe,
+        usize::MAX,
+    ])
+}
+
+/// A row or column that is not below `bound`.
+fn bad_place(r: &mut Random, bound: usize) -> usize {
+    let large = [
+        16,
+        17,
+        255,
+        65_536,
+        0x1000_0000,
+        0x8000_0000,
+        0xffff_fffe,
+        usize::MAX,
+    ];
+    match r.below(4) {
+        0 | 1 => bound,
+        2 => bound + 1 + r.below(3),
+        _ => r.pick(&large),
+    }
+}
+
+/// Fewer numbers than the matrix has: none, one too few, or any.
+fn shorten(r: &mut Random, b: &mut Vec<f32>, need: usize) {
+    let length = match r.below(5) {
+        0 => 0,
+        1..=3 => need - 1,
+        _ => r.below(need),
+    };
+    b.truncate(length)
+}
+
+fn spoil_place(r: &mut Random, call: &mut Call) {
+    let rows = call.sizes[0];
+    let columns = call.sizes.get(1).copied().unwrap_or(rows);
+    let bounds = match call.function.places() {
+        Places::Neither => return,
+        Places::Row => vec![rows],
+        Places::Column => vec![columns],
+        Places::Both => vec![rows, columns],
+    };
+    // one of them, or both
+    let which = r.below(bounds.len() + 1);
+    for (at, bound) in bounds.iter().enumerate() {
+        if which == at || which == bounds.len() {
+            call.places[at] = bad_place(r, *bound)
+        }
+    }
+}
+
+fn spoil_lengths(r: &mut Random, call: &mut Call, needs: &[usize]) {
+    let first = r.below(needs.len());
+    for (at, need) in needs.iter().enumerate() {
+        if at == first || at > first && r.one_in(3) {
+            shorten(r, &mut call.lent[at], *need)
+        }
+    }
+}
+
+fn spoil_sizes(r: &mut Random, call: &mut Call) {
+    let first = r.below(call.sizes.len());
+    for at in first..call.sizes.len() {
+        if at == first || r.one_in(3) {
+            call.sizes[at] = bad_size(r)
+        }
+    }
+}
+
+/// Makes an accepted call one that is refused with 1, 2 or 3; those later in the order are often
+/// there as well, and must not be answered.
+fn spoil(r: &mut Random, call: &mut Call) {
+    let needs = call.function.needs(&call.sizes);
+    let placed = call.function.places() != Places::Neither;
+    let refusal = if placed {
+        r.pick(&[1, 2, 3, 3])
+    } else {
+        r.pick(&[1, 2])
+    };
+    if placed && (refusal == 3 || r.one_in(3)) {
+        spoil_place(r, call)
+    }
+    let short = refusal == 2 || refusal == 1 && r.one_in(2);
+    if short {
+        spoil_lengths(r, call, &needs)
+    }
+    if refusal == 1 {
+        spoil_sizes(r, call);
+        if !short && call.sizes.iter().all(|s| *s <= 17) {
+            lengthen(r, call)
+        }
+    }
+}
+
+/// Where a size is 17: buffers that would be long enough, as far as that makes no long line.
+fn lengthen(r: &mut Random, call: &mut Call) {
+    let needs = call.function.needs(&call.sizes);
+    if needs.iter().sum::<usize>() > 600 {
+        return;
+    }
+    for (b, need) in call.lent.iter_mut().zip(needs) {
+        if need <= LONGEST {
+            while b.len() < need {
+                b.push(mark(r))
+            }
+        }
+    }
+}

@@ -1,0 +1,241 @@
+//! A call made to the original's code, and the answer of a line: the original's wherever document 01
+//! asks for what the original gives, else document 01's, with the tag that says so.
+
+use crate::calls::{same, same_answer, same_buffers, Answer, Call, Function, Tag};
+use crate::model;
+use minikalman::matrix::MatrixDataType;
+use pairs::{Filter, Grid, Square};
+use triples::Product;
+
+/// What the original leaves behind. The verdict is the decomposition's, else true.
+pub struct Outcome {
+    pub verdict: bool,
+    pub value: f32,
+    pub lent: Vec<Vec<f32>>,
+}
+
+/// Runs the original. The call has passed refusals 1 to 3.
+pub fn run(call: &Call) -> Outcome {
+    use Function::*;
+    let mut lent = call.lent.clone();
+    let s = &call.sizes;
+    let v = [
+        call.scalars.first().copied().unwrap_or(0.0),
+        call.scalars.get(1).copied().unwrap_or(0.0),
+    ];
+    let (row, column) = model::place(call);
+    let at = [row.unwrap_or(0), column.unwrap_or(0)];
+    let mut verdict = true;
+    let mut value = 0.0;
+    let product = |op, lent: &mut Vec<_>| triples::run(op, s[0], s[1], s[2], v[0], lent);
+    let mut grid = |op, lent: &mut Vec<_>| value = pairs::run_grid(op, s[0], s[1], at, v[0], lent);
+    let mut square = |op, lent: &mut Vec<_>| verdict = pairs::run_square(op, s[0], at, v, lent);
+    match call.function {
+        Get => grid(Grid::Get, &mut lent),
+        Set => grid(Grid::Set, &mut lent),
+        GetRowCopy => grid(Grid::RowCopy, &mut lent),
+        GetColumnCopy => grid(Grid::ColumnCopy, &mut lent),
+        CopyTo => grid(Grid::CopyTo, &mut lent),
+        SetAll => grid(Grid::SetAll, &mut lent),
+        Clear => grid(Grid::Clear, &mut lent),
+        SetZero => grid(Grid::SetZero, &mut lent),
+        MultRowvector => grid(Grid::MultRowvector, &mut lent),
+        MultaddRowvector => grid(Grid::MultaddRowvector, &mut lent),
+        Sub => grid(Grid::Sub, &mut lent),
+        SubInplaceA => grid(Grid::SubInplaceA, &mut lent),
+        SubInplaceB => grid(Grid::SubInplaceB, &mut lent),
+        AddInplaceA => grid(Grid::AddInplaceA, &mut lent),
+        AddInplaceB => grid(Grid::AddInplaceB, &mut lent),
+        SetSymmetric => square(Square::SetSymmetric, &mut lent),
+        SetDiagonalToScalar => square(Square::SetDiagonalToScalar, &mut lent),
+        MakeScalar => square(Square::MakeScalar, &mut lent),
+        MakeIdentity => square(Square::MakeIdentity, &mut lent),
+        MakeComatrix => square(Square::MakeComatrix, &mut lent),
+        CholeskyDecomposeLower => square(Square::CholeskyDecomposeLower, &mut lent),
+        InvertLCholesky => square(Square::InvertLCholesky, &mut lent),
+        Mult => product(Product::Mult, &mut lent),
+        MultBuffered => product(Product::MultBuffered, &mut lent),
+        MultTransb => product(Product::MultTransb, &mut lent),
+        MultaddTransb => product(Product::MultaddTransb, &mut lent),
+        MultscaleTransb => product(Product::MultscaleTransb, &mut lent),
+        Recip => value = MatrixDataType::recip(v[0]),
+        SquareRoot => value = MatrixDataType::square_root(v[0]),
+        Predict => square(Square::Predict, &mut lent),
+        // The halves of `predict` alone: the other half gets buffers of its own.
+        PredictX => {
+            let nn = vec![0.0; s[0] * s[0]];
+            lent.splice(2..2, [nn.clone(), nn.clone()]);
+            lent.push(nn);
+            square(Square::Predict, &mut lent);
+            lent.pop();
+            lent.drain(2..4);
+        }
+        PredictP => {
+            let n = vec![0.0; s[0]];
+            lent.insert(0, n.clone());
+            lent.insert(4, n);
+            square(Square::Predict, &mut lent);
+            lent.remove(4);
+            lent.remove(0);
+        }
+        Correct => pairs::run_filter(Filter::Correct, s[0], s[1], &mut lent),
+        UpdateWithInnovation => {
+            lent.insert(3, vec![0.0; s[1]]);
+            pairs::run_filter(Filter::Update, s[0], s[1], &mut lent);
+            lent.remove(3);
+        }
+        Innovation => {
+            let mut all: Vec<_> = Correct.needs(s).into_iter().map(|n| vec![0.0; n]).collect();
+            for (at, b) in [0, 2, 3, 5].into_iter().zip(&lent) {
+                all[at].clone_from(b)
+            }
+            pairs::run_filter(Filter::Innovation, s[0], s[1], &mut all);
+            // The filter goes on to x, which an innovation alone does not touch.
+            for (at, b) in [2, 3, 5].into_iter().zip(lent.iter_mut().skip(1)) {
+                b.clone_from(&all[at])
+            }
+        }
+    }
+    Outcome {
+        verdict,
+        value,
+        lent,
+    }
+}
+
+/// S as the original's products and sum give it before it is decomposed, S's own tail behind it.
+fn s_before(n: usize, m: usize, h: &[f32], p: &[f32], r: &[f32], s: &[f32]) -> Vec<f32> {
+    let mut first = [h.to_vec(), p.to_vec(), vec![0.0; m * n]];
+    triples::run(Product::Mult, m, n, n, 0.0, &mut first);
+    let [h, _, hp] = first;
+    let mut second = [hp, h, s.to_vec()];
+    triples::run(Product::MultTransb, m, n, m, 0.0, &mut second);
+    let [_, _, s] = second;
+    let mut third = [s, r.to_vec()];
+    pairs::run_grid(Grid::AddInplaceA, m, m, [0, 0], 0.0, &mut third);
+    let [s, _] = third;
+    s
+}
+
+/// The answer to a call and where it comes from; an error if the original and document 01's steps
+/// differ where they should agree.
+pub fn answer(call: &Call) -> Result<(Tag, Answer), String> {
+    use Function::*;
+    let (expected, pivot) = model::answer(call);
+    let tag = match expected.number {
+        1 => return Ok((Tag::Size, expected)),
+        2 => return Ok((Tag::Short, expected)),
+        3 => return Ok((Tag::Place, expected)),
+        4 if pivot.is_some_and(f32::is_nan) => Tag::NanPivot,
+        4 if call.function == CholeskyDecomposeLower => Tag::Pivot,
+        4 => Tag::Verdict,
+        _ => match call.function {
+            GetRowCopy if call.places[0] > 0 => Tag::RowCopy,
+            SetAll | Clear | SetZero if call.lent[0].len() > call.sizes[0] * call.sizes[1] => {
+                Tag::Fill
+            }
+            _ => Tag::Rust,
+        },
+    };
+    let found = run(call);
+    let answer = match (tag, call.function) {
+        (Tag::RowCopy | Tag::Fill, _) => expected.clone(),
+        (Tag::NanPivot, CholeskyDecomposeLower) => {
+            if !found.verdict {
+                return Err("the original refuses a NaN pivot".into());
+            }
+            expected.clone()
+        }
+        (Tag::NanPivot | Tag::Verdict, _) => {
+            // y and temp_HP as the original computed them, S as the decomposition leaves it,
+            // the others as lent.
+            let z = usize::from(call.function == Correct);
+            let (h, r, y, s, hp) = (2, 3 + z, 4 + z, 5 + z, 8 + z);
+            let mut lent = call.lent.clone();
+            for at in [y, hp] {
+                lent[at].clone_from(&found.lent[at])
+            }
+            let mut left = s_before(
+                call.sizes[0],
+                call.sizes[1],
+                &call.lent[h],
+                &call.lent[1],
+                &call.lent[r],
+                &call.lent[s],
+            );
+            let refused = if tag == Tag::NanPivot {
+                model::decompose(call.sizes[1], &mut left).is_err()
+            } else {
+                let mut alone = [left];
+                let done = pairs::run_square(
+                    Square::CholeskyDecomposeLower,
+                    call.sizes[1],
+                    [0, 0],
+                    [0.0, 0.0],
+                    &mut alone,
+                );
+                [left] = alone;
+                if !same_buffers(&[left.clone()], &found.lent[s..s + 1]) {
+                    return Err("S differs between the correction and its decomposition".into());
+                }
+                !done
+            };
+            if !refused {
+                return Err("S is refused by document 01's steps alone".into());
+            }
+            lent[s] = left;
+            Answer {
+                lent,
+                value: 0.0,
+                ..expected
+            }
+        }
+        _ => {
+            let number = if found.verdict { 0 } else { 4 };
+            // The verdict is a bool: the pivot's index is that of document 01's steps.
+            let carried = if found.verdict { 0 } else { expected.carried };
+            Answer {
+                number,
+                carried,
+                value: found.value,
+                lent: found.lent,
+            }
+        }
+    };
+    if !same_answer(&answer, &expected) {
+        return Err(format!(
+            "the original and document 01's steps differ: {}",
+            difference(&answer, &expected)
+        ));
+    }
+    Ok((tag, answer))
+}
+
+/// The first place where two answers differ.
+pub fn difference(a: &Answer, b: &Answer) -> String {
+    if (a.number, a.carried) != (b.number, b.carried) {
+        return format!(
+            "answer {} {} and {} {}",
+            a.number, a.carried, b.number, b.carried
+        );
+    }
+    if !same(a.value, b.value) {
+        return format!(
+            "value {:08x} and {:08x}",
+            a.value.to_bits(),
+            b.value.to_bits()
+        );
+    }
+    for (at, (a, b)) in a.lent.iter().zip(&b.lent).enumerate() {
+        if a.len() != b.len() {
+            return format!("buffer {at} has {} and {} numbers", a.len(), b.len());
+        }
+        for (i, (a, b)) in a.iter().zip(b).enumerate() {
+            if !same(*a, *b) {
+                let (a, b) = (a.to_bits(), b.to_bits());
+                return format!("buffer {at}, number {i}: {a:08x} and {b:08x}");
+            }
+        }
+    }
+    "none".into()
+}
