@@ -10,7 +10,7 @@ use lib.Ieee.{Float, Format, mul}
 use Rattle.row_major.specs.Grid.{grid, cell, withCell}
 use Rattle.row_major.proofs.Grids.{grid-cell}
 use Rattle.cholesky.specs.Decomposition.{lessDot, remains, below}
-use Rattle.cholesky.proofs.Cells.{Same, upTo, regrid, up-start, up-same, up-more, set-cell}
+use Rattle.row_major.proofs.Steps.{Same, upTo, regrid, up-start, up-same, up-more, set-cell}
 
 -- ---- the running difference goes by the cells that it reads
 

@@ -1,5 +1,4 @@
 -- Laws that belong to no one function: of grids that go through steps, of the columns, of the answer, and what the promise says further.
-pub mod Cells
 mod Below
 mod Triangle
 pub mod First
@@ -7,4 +6,5 @@ mod Sweep
 pub mod Calls
 mod OnlyUpper
 pub mod Diagonal
+pub mod Local
 pub mod Theorems

@@ -16,7 +16,7 @@ use Rattle.cholesky.specs.declared.Pivot.the-variants.{Accepted, Refused
 use Rattle.cholesky.specs.Pivots.{pivotTaken, pivotOf}
 use Rattle.cholesky.specs.Decomposition.{remains, below, factor, pivotAt, lastRecip, reached, refusedAt, lower, decomposed}
 use Rattle.cholesky.specs.Steps.{stored, swept}
-use Rattle.cholesky.proofs.Cells.{regrid, with-local}
+use Rattle.row_major.proofs.Steps.{regrid, with-local}
 use Rattle.cholesky.proofs.Below.{remains-local, below-local}
 use Rattle.cholesky.proofs.Triangle.{lower-local}
 

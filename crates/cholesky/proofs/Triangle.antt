@@ -14,7 +14,7 @@ use Rattle.row_major.specs.Grid.{grid, cell}
 use Rattle.row_major.proofs.Grids.{grid-self, grid-ext}
 use Rattle.cholesky.specs.Decomposition.{lower}
 use Rattle.cholesky.specs.Steps.{clearColumn}
-use Rattle.cholesky.proofs.Cells.{Same, upTo, regrid, up-start, up-more, up-all}
+use Rattle.row_major.proofs.Steps.{Same, upTo, regrid, up-start, up-more, up-all}
 
 module _ (e : ℕ → ℕ → Float) (i : ℕ) where
   -- another column is as it was

@@ -2,8 +2,8 @@
 ghost use lib.Ieee.{binary32};
 ghost use Rattle.cholesky.specs.Promise.{Decomposed};
 use crate::cores;
-use crate::gates;
 use answers::Answer;
+use row_major::gates;
 
 // t, an n by n matrix of which the diagonal and what lies above it are read, becomes its lower factor;
 // or the first pivot that is not above zero is named.

@@ -2,7 +2,6 @@
 mod columns;
 pub mod cores;
 mod decompose;
-mod gates;
 mod pivots;
 mod upper;
 

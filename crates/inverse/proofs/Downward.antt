@@ -11,7 +11,7 @@ use lib.Ieee.{Float, Format, nan, mul, neg}
 use Rattle.data_type.specs.Reciprocal.{recipOf}
 use Rattle.row_major.specs.Grid.{grid, cell, withCell}
 use Rattle.row_major.proofs.Grids.{inside, grid-cell, grid-set, grid-ext, grid-self, with-same, with-row, with-col}
-use Rattle.cholesky.proofs.Cells.{Same, regrid}
+use Rattle.row_major.proofs.Steps.{Same, regrid}
 use Rattle.inverse.specs.Inverse.{plusSum, solved, backAt, cross, backColumn, back, inverse}
 use Rattle.inverse.proofs.Upward.{plus-ext}
 

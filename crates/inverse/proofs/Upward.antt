@@ -13,7 +13,7 @@ use Rattle.data_type.specs.Reciprocal.{recipOf}
 use Rattle.data_type.proofs.Sums.{sum-same}
 use Rattle.row_major.specs.Grid.{grid, cell}
 use Rattle.row_major.proofs.Grids.{grid-cell}
-use Rattle.cholesky.proofs.Cells.{Same, upTo, regrid, up-start, up-same, up-more, up-all}
+use Rattle.row_major.proofs.Steps.{Same, upTo, regrid, up-start, up-same, up-more, up-all}
 use Rattle.inverse.specs.Inverse.{plusSum, unitAt, solvedAt, solveColumn, solved}
 
 -- ---- sums go by their terms

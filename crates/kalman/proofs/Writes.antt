@@ -9,8 +9,8 @@ use lib.Ieee.{Float, Format, nan, add, mul}
 use Rattle.data_type.specs.Sums.{plus0, products}
 use Rattle.data_type.proofs.Sums.{sum-same}
 use Rattle.row_major.specs.Grid.{cell, run, grid}
-use Rattle.row_major.proofs.Grids.{run-ext, run-cell, grid-cell, grid-ext, grid-flat}
-use Rattle.row_major.proofs.Steps.{grid-over}
+use Rattle.row_major.proofs.Grids.{run-ext, run-cell, grid-cell, grid-ext}
+use Rattle.sums.proofs.Over.{over-left}
 use Rattle.products.specs.Entries.{timesT}
 use Rattle.kalman.specs.Prediction.{predictedX, tempP, predictedP}
 
@@ -25,16 +25,6 @@ written-times f n t l b r c hr fits =
     sum-same f plus0 (products f (cell n (grid n n t l) r) (b c)) (products f (t r) (b c)) n
     (λ k h. ap (λ (x : Float). mul f x (b c k)) (grid-cell n n t l r k hr h fits))
 
--- P₁ = e in front of P, then Q added to each cell
-pub added : (f : Format) (n : ℕ) (e : ℕ → ℕ → Float) (P Q P₁ P' : List Float) → n * n ≤ length P → P₁ ≡ grid n n e P
-    → P' ≡ run 0 (n * n) (λ i. add f (getD P₁ i nan) (getD Q i nan)) P₁
-    → P' ≡ grid n n (λ r c. add f (e r c) (cell n Q r c)) P
-added f n e P Q P₁ P' fits p q =
-    q ∙ sym (grid-flat n n (λ i. add f (getD P₁ i nan) (getD Q i nan)) P₁)
-    ∙ ap (λ (l : List Float). grid n n (λ r c. add f (cell n l r c) (cell n Q r c)) l) p
-    ∙ grid-over n (λ r c. add f (cell n (grid n n e P) r c) (cell n Q r c)) e P fits
-    ∙ grid-ext n n _ _ P (λ r c hr hc. ap (λ (x : Float). add f x (cell n Q r c)) (grid-cell n n e P r c hr hc fits))
-
 -- temp_P = A·P, P = temp_P·Aᵀ, P = P + Q
 pub P-written : (f : Format) (n : ℕ) (A P Q temp temp' P₁ P' : List Float) → n * n ≤ length P → n * n ≤ length temp
     → temp' ≡ grid n n (tempP f n A P) temp
@@ -42,7 +32,7 @@ pub P-written : (f : Format) (n : ℕ) (A P Q temp temp' P₁ P' : List Float) �
     → P' ≡ run 0 (n * n) (λ i. add f (getD P₁ i nan) (getD Q i nan)) P₁
     → P' ≡ grid n n (predictedP f n A P Q) P
 P-written f n A P Q temp temp' P₁ P' hP ht t p q =
-    added f n (timesT f n (tempP f n A P) (cell n A)) P Q P₁ P' hP
+    over-left (add f) n (timesT f n (tempP f n A P) (cell n A)) P₁ P Q P' hP
     (p
     ∙ ap (λ (l : List Float). grid n n (timesT f n (cell n l) (cell n A)) P) t
     ∙ grid-ext n n _ _ P (λ r c hr hc. written-times f n (tempP f n A P) temp (cell n A) r c hr ht))

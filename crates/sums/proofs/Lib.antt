@@ -2,3 +2,4 @@
 pub mod Pairs
 pub mod Fits
 pub mod Unique
+pub mod Over

@@ -8,7 +8,7 @@ use lib.Ieee.{binary32}
 use Rattle.row_major.specs.Grid.{grid, cell}
 use Rattle.row_major.proofs.Grids.{row-in}
 use Rattle.cholesky.specs.Decomposition.{below}
-use Rattle.cholesky.proofs.Cells.{upTo, up-all}
+use Rattle.row_major.proofs.Steps.{upTo, up-all}
 use Rattle.cholesky.proofs.Below.{below-start, below-more}
 use Rattle.cholesky.proofs.columns.fill_below.Statement.{statement}
 use Rattle.cholesky.proofs.columns.fill_below.Tie as tie

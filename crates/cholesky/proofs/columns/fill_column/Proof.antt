@@ -5,7 +5,7 @@ use borrow.Author.Needs.{needs}
 use denote.Ref.{now}
 use lib.ListN.{length-set}
 use lib.Ieee.{binary32}
-use Rattle.cholesky.proofs.Cells.{set-cell}
+use Rattle.row_major.proofs.Steps.{set-cell}
 use Rattle.cholesky.proofs.Below.{below-after}
 use Rattle.cholesky.proofs.Sweep.{told}
 use Rattle.cholesky.proofs.columns.fill_column.Statement.{statement}

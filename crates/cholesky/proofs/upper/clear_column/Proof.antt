@@ -8,7 +8,7 @@ use lib.Ieee.{ofBits}
 use Rattle.row_major.specs.Grid.{grid, cell}
 use Rattle.row_major.proofs.Grids.{row-in}
 use Rattle.cholesky.specs.Steps.{clearColumn}
-use Rattle.cholesky.proofs.Cells.{upTo}
+use Rattle.row_major.proofs.Steps.{upTo}
 use Rattle.cholesky.proofs.Triangle.{clear-start, clear-more, clear-end}
 use Rattle.cholesky.proofs.upper.clear_column.Statement.{statement}
 use Rattle.cholesky.proofs.upper.clear_column.Tie as tie

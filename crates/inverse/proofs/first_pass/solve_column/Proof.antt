@@ -9,7 +9,7 @@ use lib.Ieee.{binary32}
 use Rattle.data_type.specs.Reciprocal.{recipOf}
 use Rattle.row_major.specs.Grid.{grid, cell}
 use Rattle.row_major.proofs.Grids.{row-in}
-use Rattle.cholesky.proofs.Cells.{upTo}
+use Rattle.row_major.proofs.Steps.{upTo}
 use Rattle.inverse.specs.Inverse.{solveColumn}
 use Rattle.inverse.proofs.Upward.{solve-start, solve-more, solve-end}
 use Rattle.inverse.proofs.first_pass.solve_column.Statement.{statement}

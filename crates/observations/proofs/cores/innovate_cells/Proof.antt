@@ -1,0 +1,33 @@
+use native.Mathlib.Omega.{arith}
+use Rattle.observations.proofs.Steps.{innovated}
+use borrow.Author.Needs.{needs}
+use denote.Ref.{now}
+use lib.Ieee.{binary32}
+use Rattle.observations.proofs.cores.innovate_cells.Statement.{statement}
+use Rattle.observations.proofs.cores.innovate_cells.Tie as tie
+use Rattle.observations.proofs.cores.innovate_cells.Reads as reads
+use Rattle.observations.proofs.cores.innovate_cells.Lts as lts
+use Rattle.products.proofs.cores.rowvector_cells.Reads as rowvector-cells-reads
+use Rattle.sums.proofs.cores.sub_cells_b.Reads as sub-cells-b-reads
+
+-- src/cores.rt:20:5
+rowvector-cells-requires : tie.Need-rowvector-cells-requires
+rowvector-cells-requires c κs = search needs
+
+-- src/cores.rt:21:5
+sub-cells-b-requires : tie.Need-sub-cells-b-requires
+sub-cells-b-requires c κs = search needs
+
+-- src/cores.rt:16:1
+same-length : tie.Need-same-length
+same-length c = search needs
+
+-- src/cores.rt:16:1
+returns : tie.Need-returns
+returns c =
+    let a = c .before .before .before .before .before .before .before .before .before .before .before .before .args in
+    innovated binary32 (a .n) (a .m) (now (a .x)) (now (a .h)) (now (a .z)) (now (a .y)) _ _ (omega arith) (c .before .before .before .before .before .before .rowvector-cells .ensures) (c .before .before .sub-cells-b .ensures)
+
+pub innovate-cells-spec : {M : Type 1} → statement M
+innovate-cells-spec =
+    tie.close (tie.spec rowvector-cells-requires sub-cells-b-requires same-length returns)

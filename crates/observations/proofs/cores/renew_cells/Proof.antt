@@ -1,0 +1,60 @@
+use native.Mathlib.Omega.{arith}
+use Rattle.observations.proofs.Steps.{renewed}
+use borrow.Author.Needs.{needs}
+use denote.Ref.{now}
+use lib.Ieee.{binary32}
+use Rattle.observations.proofs.cores.renew_cells.Statement.{statement}
+use Rattle.observations.proofs.cores.renew_cells.Tie as tie
+use Rattle.observations.proofs.cores.renew_cells.Reads as reads
+use Rattle.observations.proofs.cores.renew_cells.Lts as lts
+use Rattle.products.proofs.cores.mult_cells.Reads as mult-cells-reads
+use Rattle.products.proofs.cores.rowvector_add_cells.Reads as rowvector-add-cells-reads
+use Rattle.sums.proofs.cores.sub_cells_a.Reads as sub-cells-a-reads
+
+-- src/cores.rt:83:5
+rowvector-add-cells-requires : tie.Need-rowvector-add-cells-requires
+rowvector-add-cells-requires c κs = search needs
+
+-- src/cores.rt:84:5
+mult-cells-requires : tie.Need-mult-cells-requires
+mult-cells-requires c κs = search needs
+
+-- src/cores.rt:85:30
+mul-sub-cells-a : tie.Need-mul-sub-cells-a
+mul-sub-cells-a c = search needs
+
+-- src/cores.rt:85:5
+sub-cells-a-requires : tie.Need-sub-cells-a-requires
+sub-cells-a-requires c κs = search needs
+
+-- src/cores.rt:68:1
+same-length : tie.Need-same-length
+same-length c = search needs
+
+-- src/cores.rt:68:1
+same-length-2 : tie.Need-same-length-2
+same-length-2 c = search needs
+
+-- src/cores.rt:68:1
+same-length-3 : tie.Need-same-length-3
+same-length-3 c = search needs
+
+-- src/cores.rt:68:1
+returns : tie.Need-returns
+returns c =
+    let t = c .before .before .before .before .before .before .before in
+    let a = t .before .before .before .before .before .before .before .before .before .before .before .before .args in
+    (t .before .before .before .before .rowvector-add-cells .ensures, (t .mult-cells .ensures, renewed binary32 (a .n) (a .m) (now (a .p)) (now (a .k)) (now (a .temp-hp)) (now (a .temp-khp)) _ (omega arith) (t .mult-cells .ensures) (c .before .before .sub-cells-a .ensures)))
+
+pub renew-cells-spec : {M : Type 1} → statement M
+renew-cells-spec =
+    tie.close
+    (tie.spec
+    rowvector-add-cells-requires
+    mult-cells-requires
+    mul-sub-cells-a
+    sub-cells-a-requires
+    same-length
+    same-length-2
+    same-length-3
+    returns)

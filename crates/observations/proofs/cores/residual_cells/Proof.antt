@@ -1,0 +1,65 @@
+use Rattle.observations.proofs.Steps.{residual}
+use borrow.Author.Needs.{needs}
+use denote.Ref.{now}
+use lib.Ieee.{binary32}
+use Rattle.observations.proofs.cores.residual_cells.Statement.{statement}
+use Rattle.observations.proofs.cores.residual_cells.Tie as tie
+use Rattle.observations.proofs.cores.residual_cells.Reads as reads
+use Rattle.observations.proofs.cores.residual_cells.Lts as lts
+use Rattle.cholesky.proofs.cores.decompose_cells.Reads as decompose-cells-reads
+use Rattle.products.proofs.cores.mult_cells.Reads as mult-cells-reads
+use Rattle.products.proofs.cores.transb_cells.Reads as transb-cells-reads
+use Rattle.sums.proofs.cores.add_cells_a.Reads as add-cells-a-reads
+
+-- src/cores.rt:40:5
+mult-cells-requires : tie.Need-mult-cells-requires
+mult-cells-requires c κs = search needs
+
+-- src/cores.rt:41:5
+transb-cells-requires : tie.Need-transb-cells-requires
+transb-cells-requires c κs = search needs
+
+-- src/cores.rt:42:30
+mul-add-cells-a : tie.Need-mul-add-cells-a
+mul-add-cells-a c = search needs
+
+-- src/cores.rt:42:5
+add-cells-a-requires : tie.Need-add-cells-a-requires
+add-cells-a-requires c κs = search needs
+
+-- src/cores.rt:43:5
+decompose-cells-requires : tie.Need-decompose-cells-requires
+decompose-cells-requires c κs = search needs
+
+-- src/cores.rt:26:1
+same-length : tie.Need-same-length
+same-length c = search needs
+
+-- src/cores.rt:26:1
+same-length-2 : tie.Need-same-length-2
+same-length-2 c = search needs
+
+-- src/cores.rt:26:1
+returns : tie.Need-returns
+returns c =
+    let d = c .before .before .decompose-cells .ensures in
+    let s = c .before .before .before .before .before .before in
+    let t = s .before .before .before .before in
+    let h = t .before .before .before .before .before in
+    let start = h .before .before .before .before .before .before .before in
+    let a = start .args in
+    let k = residual binary32 (a .n) (a .m) (now (a .p)) (now (a .h)) (now (a .r)) (now (a .temp-hp)) (now (a .s)) _ _ _ (start .pre .5) (start .pre .4) (h .mult-cells .ensures) (t .transb-cells .ensures) (s .add-cells-a .ensures) (d .0) (d .1) in
+    (k .0, (h .mult-cells .ensures, k .1))
+
+pub residual-cells-spec : {M : Type 1} → statement M
+residual-cells-spec =
+    tie.close
+    (tie.spec
+    mult-cells-requires
+    transb-cells-requires
+    mul-add-cells-a
+    add-cells-a-requires
+    decompose-cells-requires
+    same-length
+    same-length-2
+    returns)

@@ -1,0 +1,2 @@
+-- The definitions that the contracts cite: the one-state filter.
+pub mod OneState

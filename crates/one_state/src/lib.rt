@@ -1,0 +1,66 @@
+// The one-state filter: the tension of one yarn, by value. A total starts at +0, as the general
+// filter's does, so −0 becomes +0.
+ghost use mathlib.Core.Path.{_≡_};
+ghost use Rattle.one_state.specs.OneState.{predicted, corrected};
+use cholesky::Pivot;
+
+// Tension on one yarn: the estimate x and its spread p, the model a and q, the reading's h and r.
+pub struct OneState {
+    pub x: f32,
+    pub p: f32,
+    pub a: f32,
+    pub q: f32,
+    pub h: f32,
+    pub r: f32,
+}
+
+// What a correction hands back.
+pub enum Corrected {
+    // The record with the new x and p.
+    Accepted(OneState),
+    // Refusal 4: the record unchanged, with the pivot's index, 0.
+    Refused(OneState, usize),
+}
+
+impl OneState {
+    // The record with x and p as the model moves them: a·x, and a·p·a + q.
+    pub fn predict(self) -> OneState
+        ensures { λ r. ⌜ r ≡ predicted self ⌝ }
+    {
+        let p = self.p;
+        let a = self.a;
+        let ap = 0.0 + a * p;
+        let apa = 0.0 + ap * a;
+        let mut next = self;
+        next.x = a * self.x;
+        next.p = apa + self.q;
+        next
+    }
+
+    // The record with x and p as the reading z moves them; or the record unchanged, where the
+    // reading's spread S is not above zero.
+    pub fn correct(self, z: f32) -> Corrected
+        ensures { λ r. ⌜ r ≡ corrected self z ⌝ }
+    {
+        let x = self.x;
+        let p = self.p;
+        let h = self.h;
+        let hp = 0.0 + h * p;
+        let hph = 0.0 + hp * h;
+        match cholesky::pivot_of(hph + self.r) {
+            Pivot::Accepted(_, d) => {
+                // S⁻¹, from the reciprocal d of S's root
+                let inverse = 1.0 * d * d;
+                let pht = 0.0 + p * h;
+                let k = 0.0 + pht * inverse;
+                let y = z - h * x;
+                let khp = 0.0 + k * hp;
+                let mut next = self;
+                next.x = x + k * y;
+                next.p = p - khp;
+                Corrected::Accepted(next)
+            }
+            Pivot::Refused(_) => Corrected::Refused(self, 0),
+        }
+    }
+}
