@@ -3,37 +3,14 @@
 use mathlib.Core.Path.{_≡_, refl, sym, ap, _∙_}
 use mathlib.Core.List.{List}
 use Prim.Native.Nat.{ℕ, _+_, _*_, _<_, _≤_}
-use native.Mathlib.Nat.{zero-add, le-refl, mul-le-mul, mul-le-mul-right}
+use native.Mathlib.Nat.{zero-add}
 use native.Mathlib.Numerals.{add-one}
 use native.Mathlib.Omega.{arith}
 use lib.ListN.{length, getD, set, length-set}
 use lib.Ieee.{Float, Format, nan, add, mul}
 use Rattle.row_major.specs.Grid.{cell, run, grid}
-use Rattle.row_major.proofs.Grids.{row-in, run-past, run-ext, length-run, grid-past}
+use Rattle.row_major.proofs.Grids.{run-past, run-ext, length-run, grid-past}
 use Rattle.row_major.proofs.Loops.{Writing, written, all-written}
-
--- ---- places
-
--- four rows of w numbers from r on lie within a buffer of len numbers, and their count is small
-pub record FourIn (w r len : ℕ) : Type 0 where
-  pub count : r + 4 ≤ len
-  pub first : r * w + w ≤ len
-  pub second : (r + 1) * w + w ≤ len
-  pub third : (r + 2) * w + w ≤ len
-  pub fourth : (r + 3) * w + w ≤ len
-
-pub four-in : (w r len : ℕ) → 1 ≤ w → (r + 4) * w ≤ len → FourIn w r len
-four-in w r len some h = record {
-  count = omega (arith, mul-le-mul (le-refl (r + 4)) some);
-  first = omega (arith, row-in (r + 4) w r (omega arith));
-  second = omega (arith, row-in (r + 4) w (r + 1) (omega arith));
-  third = omega (arith, row-in (r + 4) w (r + 2) (omega arith));
-  fourth = omega (arith, row-in (r + 4) w (r + 3) (omega arith));
-}
-
--- four rows that a loop counts lie within a matrix of so many rows
-pub rows-in : (rows w r : ℕ) → r + 4 ≤ rows → (r + 4) * w ≤ rows * w
-rows-in rows w r h = mul-le-mul-right w h
 
 -- ---- one row
 
@@ -70,6 +47,7 @@ pub record Onward (at n : ℕ) (g : List Float → ℕ → Float) (l₀ : List F
   pub size : length l ≡ length l₀
   pub goes-on : (z : List Float) → Writing at n (g z) z l₀ j₀ → Writing at n (g z) z l j
 
+-- where the second loop begins
 pub onward : {at n : ℕ} {g : List Float → ℕ → Float} {l₀ : List Float} {j₀ : ℕ} → j₀ ≤ n → Onward at n g l₀ j₀ l₀ j₀
 onward h = record { within = h; size = refl; goes-on = λ z w. w }
 
@@ -112,31 +90,30 @@ to-front f h z i = rw zero-add
 
 -- a cell that is still to be written, with its number added
 pub cell-added :
-    (f : Format) (h : ℕ → Float) {at n : ℕ} {g : ℕ → Float} {l₀ l : List Float} {j p : ℕ} {v t : Float} → AddedTo f at h l₀ g → Writing at n g l₀ l j
-    → (i : ℕ) → j ≤ i → p ≡ at + i → v ≡ add f (getD l p nan) t → t ≡ h i → v ≡ g i
-cell-added f h {at} {n} {g} {l₀} {l} {j} {p} {v} {t} s w i le e q r = q ∙ rw (e, r, unread-at w i le) (sym (s i))
+    (f : Format) (h : ℕ → Float) {at n : ℕ} {g : ℕ → Float} {l₀ l : List Float} {j p : ℕ} {t : Float} → AddedTo f at h l₀ g → Writing at n g l₀ l j
+    → (i : ℕ) → j ≤ i → p ≡ at + i → t ≡ h i → add f (getD l p nan) t ≡ g i
+cell-added f h {at} {n} {g} {l₀} {l} {j} {p} {t} s w i le e r = rw (e, r, unread-at w i le) (sym (s i))
 
 -- four cells more, from their place p upward
 pub four-added :
-    (f : Format) (h : ℕ → Float) {at n : ℕ} {g : ℕ → Float} {l₀ l l' : List Float} {j p : ℕ} {v0 v1 v2 v3 t0 t1 t2 t3 : Float} → AddedTo f at h l₀ g → Writing at n g l₀ l j
-    → j + 4 ≤ n → p ≡ at + j
-    → v0 ≡ add f (getD l p nan) t0 → v1 ≡ add f (getD l (p + 1) nan) t1 → v2 ≡ add f (getD l (p + 2) nan) t2 → v3 ≡ add f (getD l (p + 3) nan) t3
-    → t0 ≡ h j → t1 ≡ h (j + 1) → t2 ≡ h (j + 2) → t3 ≡ h (j + 3) → l' ≡ put4 l p v0 v1 v2 v3
+    (f : Format) (h : ℕ → Float) {at n : ℕ} {g : ℕ → Float} {l₀ l l' : List Float} {j p : ℕ} {t0 t1 t2 t3 : Float} → AddedTo f at h l₀ g → Writing at n g l₀ l j
+    → j + 4 ≤ n → p ≡ at + j → t0 ≡ h j → t1 ≡ h (j + 1) → t2 ≡ h (j + 2) → t3 ≡ h (j + 3)
+    → l' ≡ put4 l p (add f (getD l p nan) t0) (add f (getD l (p + 1) nan) t1) (add f (getD l (p + 2) nan) t2) (add f (getD l (p + 3) nan) t3)
     → Writing at n g l₀ l' (j + 4)
-four-added f h {at} {n} {g} {l₀} {l} {l'} {j} {p} s w le e v0 v1 v2 v3 t0 t1 t2 t3 q =
+four-added f h {at} {n} {g} {l₀} {l} {l'} {j} {p} s w le e t0 t1 t2 t3 q =
     four-more w le e
-    (cell-added f h s w j (omega arith) e v0 t0)
-    (cell-added f h {p = p + 1} s w (j + 1) (omega arith) (omega arith) v1 t1)
-    (cell-added f h {p = p + 2} s w (j + 2) (omega arith) (omega arith) v2 t2)
-    (cell-added f h {p = p + 3} s w (j + 3) (omega arith) (omega arith) v3 t3)
+    (cell-added f h s w j (omega arith) e t0)
+    (cell-added f h {p = p + 1} s w (j + 1) (omega arith) (omega arith) t1)
+    (cell-added f h {p = p + 2} s w (j + 2) (omega arith) (omega arith) t2)
+    (cell-added f h {p = p + 3} s w (j + 3) (omega arith) (omega arith) t3)
     q
 
 -- one cell more where another loop stopped
 pub one-added :
-    (f : Format) (h : ℕ → Float) {at n : ℕ} {g : List Float → ℕ → Float} {l₀ l : List Float} {j₀ j p : ℕ} {v t : Float} → ((z : List Float) → AddedTo f at h z (g z))
-    → Onward at n g l₀ j₀ l j → j < n → p ≡ at + j → v ≡ add f (getD l p nan) t → t ≡ h j
-    → Onward at n g l₀ j₀ (set l p v) (j + 1)
-one-added f h {at} {n} {g} {l₀} {l} {j₀} {j} s o le e q r = one-onward o le e (λ z w. cell-added f h (s z) w j (omega arith) e q r)
+    (f : Format) (h : ℕ → Float) {at n : ℕ} {g : List Float → ℕ → Float} {l₀ l : List Float} {j₀ j p : ℕ} {t : Float} → ((z : List Float) → AddedTo f at h z (g z))
+    → Onward at n g l₀ j₀ l j → j < n → p ≡ at + j → t ≡ h j
+    → Onward at n g l₀ j₀ (set l p (add f (getD l p nan) t)) (j + 1)
+one-added f h {at} {n} {g} {l₀} {l} {j₀} {j} s o le e r = one-onward o le e (λ z w. cell-added f h (s z) w j (omega arith) e r)
 
 -- ---- row after row
 
@@ -146,6 +123,7 @@ pub record Rows (rows cols : ℕ) (e : ℕ → ℕ → Float) (l₀ l : List Flo
   pub size : length l ≡ length l₀
   pub so-far : l ≡ grid r cols e l₀
 
+-- before the first row
 pub no-rows : {rows cols : ℕ} {e : ℕ → ℕ → Float} {l₀ : List Float} → Rows rows cols e l₀ l₀ 0
 unfolding grid
 no-rows = record { within = omega arith; size = refl; so-far = refl }
@@ -173,5 +151,6 @@ pub row-added :
     → Rows rows cols (λ i j. add f (cell cols l₀ i j) (h i j)) l₀ l' (r + 1)
 row-added f h {rows} {cols} {l₀} {l} {l'} {r} w lt q = row-more w lt q (λ j. ap (λ (x : Float). add f x (h r j)) (unread-row w j))
 
+-- after the last row the matrix is written
 pub all-rows : {rows cols : ℕ} {e : ℕ → ℕ → Float} {l₀ l : List Float} {r : ℕ} → Rows rows cols e l₀ l r → rows ≤ r → l ≡ grid rows cols e l₀
 all-rows {rows} {cols} {e} {l₀} {l} {r} w h = let q : r ≡ rows = omega (arith, w .within) in w .so-far ∙ ap (λ (k : ℕ). grid k cols e l₀) q

@@ -4,7 +4,7 @@ mod mult;
 mod rowvector;
 mod transb;
 
-pub use mult::first_column;
+pub use mult::column_cells;
 pub use mult::mult_cells;
 pub use rowvector::rowvector_add_cells;
 pub use rowvector::rowvector_cells;

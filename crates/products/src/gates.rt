@@ -49,6 +49,5 @@ pub fn row(rows: usize, inner: usize, la: usize, lx: usize, lc: usize) -> Answer
     let rows_taken = answers::then_size(Answer::Done, 0, rows);
     let sizes = answers::then_size(rows_taken, 1, inner);
     let left = answers::then_matrix(sizes, 0, rows, inner, la);
-    let right = answers::then_buffer(left, 1, inner, lx);
-    answers::then_buffer(right, 2, rows, lc)
+    answers::then_buffer(answers::then_buffer(left, 1, inner, lx), 2, rows, lc)
 }

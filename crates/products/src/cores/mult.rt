@@ -26,27 +26,24 @@ fn column_total(inner: usize, cols: usize, a: &[f32], b: &[f32], r: usize, j: us
 // Entries (r, j) to (r, j + 3).
 fn four_columns(inner: usize, cols: usize, a: &[f32], b: &[f32], r: usize, j: usize) -> Four
     requires { ⌜ (j + 4 ≤ cols) × (r * inner + inner ≤ length (now a)) × (inner * cols ≤ length (now b)) ⌝ }
-    ensures { λ v. ⌜ (v .t0 ≡ product binary32 inner cols (now (a .entry)) (now (b .entry)) r j) × (v .t1 ≡ product binary32 inner cols (now (a .entry)) (now (b .entry)) r (j + 1)) × (v .t2 ≡ product binary32 inner cols (now (a .entry)) (now (b .entry)) r (j + 2)) × (v .t3 ≡ product binary32 inner cols (now (a .entry)) (now (b .entry)) r (j + 3)) ⌝ }
+    ensures { λ v. ⌜ (v .t0 ≡ product binary32 inner cols (now (a .entry)) (now (b .entry)) r j)
+        × (v .t1 ≡ product binary32 inner cols (now (a .entry)) (now (b .entry)) r (j + 1))
+        × (v .t2 ≡ product binary32 inner cols (now (a .entry)) (now (b .entry)) r (j + 2))
+        × (v .t3 ≡ product binary32 inner cols (now (a .entry)) (now (b .entry)) r (j + 3)) ⌝ }
 {
     let row = r * inner;
-    let j1 = j + 1;
-    let j2 = j + 2;
-    let j3 = j + 3;
-    let mut t0: f32 = 0.0;
-    let mut t1: f32 = 0.0;
-    let mut t2: f32 = 0.0;
-    let mut t3: f32 = 0.0;
+    let mut t = Four {
+        t0: 0.0,
+        t1: 0.0,
+        t2: 0.0,
+        t3: 0.0,
+    };
     let mut k: usize = 0;
     while k < inner {
-        let x = a[row + k];
-        let from = k * cols;
-        t0 = t0 + x * b[from + j];
-        t1 = t1 + x * b[from + j1];
-        t2 = t2 + x * b[from + j2];
-        t3 = t3 + x * b[from + j3];
+        t = fours::plus(t, fours::times(a[row + k], b, k * cols + j, 1));
         k += 1;
     }
-    Four { t0, t1, t2, t3 }
+    t
 }
 
 // Row r, into c: four columns at a time, then one by one.
@@ -78,14 +75,14 @@ pub fn mult_cells(rows: usize, inner: usize, cols: usize, a: &[f32], b: &[f32], 
     }
 }
 
-// Column 0 of b, into x.
-pub fn first_column(inner: usize, cols: usize, b: &[f32], x: &mut [f32])
-    requires { ⌜ (1 ≤ cols) × (inner * cols ≤ length (now b)) × (inner ≤ length (now x)) ⌝ }
-    ensures { λ _. ⌜ now (x .exit) ≡ run 0 inner (λ k. cell cols (now (b .entry)) k 0) (now (x .entry)) ⌝ }
+// Column j of b, into x.
+pub fn column_cells(inner: usize, cols: usize, b: &[f32], j: usize, x: &mut [f32])
+    requires { ⌜ (j < cols) × (inner * cols ≤ length (now b)) × (inner ≤ length (now x)) ⌝ }
+    ensures { λ _. ⌜ now (x .exit) ≡ run 0 inner (λ k. cell cols (now (b .entry)) k j) (now (x .entry)) ⌝ }
 {
     let mut k: usize = 0;
     while k < inner {
-        x[k] = b[k * cols];
+        x[k] = b[k * cols + j];
         k += 1;
     }
 }

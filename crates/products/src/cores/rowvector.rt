@@ -26,28 +26,20 @@ fn total_from_first(inner: usize, a: &[f32], x: &[f32], r: usize) -> f32
 
 // Entries r to r + 3.
 fn four_from_first(inner: usize, a: &[f32], x: &[f32], r: usize) -> Four
-    requires { ⌜ (1 ≤ inner) × ((r + 4) * inner ≤ length (now a)) × (inner ≤ length (now x)) ⌝ }
-    ensures { λ v. ⌜ (v .t0 ≡ rowProduct binary32 inner (now (a .entry)) (now (x .entry)) r) × (v .t1 ≡ rowProduct binary32 inner (now (a .entry)) (now (x .entry)) (r + 1)) × (v .t2 ≡ rowProduct binary32 inner (now (a .entry)) (now (x .entry)) (r + 2)) × (v .t3 ≡ rowProduct binary32 inner (now (a .entry)) (now (x .entry)) (r + 3)) ⌝ }
+    requires { ⌜ (1 ≤ inner) × (r * inner + 4 * inner ≤ length (now a)) × (inner ≤ length (now x)) ⌝ }
+    ensures { λ v. ⌜ (v .t0 ≡ rowProduct binary32 inner (now (a .entry)) (now (x .entry)) r)
+        × (v .t1 ≡ rowProduct binary32 inner (now (a .entry)) (now (x .entry)) (r + 1))
+        × (v .t2 ≡ rowProduct binary32 inner (now (a .entry)) (now (x .entry)) (r + 2))
+        × (v .t3 ≡ rowProduct binary32 inner (now (a .entry)) (now (x .entry)) (r + 3)) ⌝ }
 {
-    let row0 = r * inner;
-    let row1 = (r + 1) * inner;
-    let row2 = (r + 2) * inner;
-    let row3 = (r + 3) * inner;
-    let first = x[0];
-    let mut t0 = a[row0] * first;
-    let mut t1 = a[row1] * first;
-    let mut t2 = a[row2] * first;
-    let mut t3 = a[row3] * first;
+    let row = r * inner;
+    let mut t = fours::times(x[0], a, row, inner);
     let mut k: usize = 1;
     while k < inner {
-        let y = x[k];
-        t0 = t0 + a[row0 + k] * y;
-        t1 = t1 + a[row1 + k] * y;
-        t2 = t2 + a[row2 + k] * y;
-        t3 = t3 + a[row3 + k] * y;
+        t = fours::plus(t, fours::times(x[k], a, row + k, inner));
         k += 1;
     }
-    Four { t0, t1, t2, t3 }
+    t
 }
 
 // The rows numbers, into c: four of a's rows at a time, then one by one.
@@ -73,8 +65,7 @@ pub fn rowvector_add_cells(rows: usize, inner: usize, a: &[f32], x: &[f32], c: &
 {
     let mut r: usize = 0;
     while r + 4 <= rows {
-        let sums = fours::added(c, r, four_from_first(inner, a, x, r));
-        fours::put(c, r, sums);
+        fours::add(c, r, four_from_first(inner, a, x, r));
         r += 4;
     }
     while r < rows {

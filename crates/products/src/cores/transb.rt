@@ -26,33 +26,31 @@ fn row_total(inner: usize, a: &[f32], b: &[f32], r: usize, j: usize) -> f32
 
 // Entries (r, j) to (r, j + 3).
 fn four_rows(inner: usize, a: &[f32], b: &[f32], r: usize, j: usize) -> Four
-    requires { ⌜ (1 ≤ inner) × (r * inner + inner ≤ length (now a)) × ((j + 4) * inner ≤ length (now b)) ⌝ }
-    ensures { λ v. ⌜ (v .t0 ≡ productT binary32 inner (now (a .entry)) (now (b .entry)) r j) × (v .t1 ≡ productT binary32 inner (now (a .entry)) (now (b .entry)) r (j + 1)) × (v .t2 ≡ productT binary32 inner (now (a .entry)) (now (b .entry)) r (j + 2)) × (v .t3 ≡ productT binary32 inner (now (a .entry)) (now (b .entry)) r (j + 3)) ⌝ }
+    requires { ⌜ (r * inner + inner ≤ length (now a)) × (j * inner + 4 * inner ≤ length (now b)) ⌝ }
+    ensures { λ v. ⌜ (v .t0 ≡ productT binary32 inner (now (a .entry)) (now (b .entry)) r j)
+        × (v .t1 ≡ productT binary32 inner (now (a .entry)) (now (b .entry)) r (j + 1))
+        × (v .t2 ≡ productT binary32 inner (now (a .entry)) (now (b .entry)) r (j + 2))
+        × (v .t3 ≡ productT binary32 inner (now (a .entry)) (now (b .entry)) r (j + 3)) ⌝ }
 {
     let left = r * inner;
-    let right0 = j * inner;
-    let right1 = (j + 1) * inner;
-    let right2 = (j + 2) * inner;
-    let right3 = (j + 3) * inner;
-    let mut t0: f32 = 0.0;
-    let mut t1: f32 = 0.0;
-    let mut t2: f32 = 0.0;
-    let mut t3: f32 = 0.0;
+    let right = j * inner;
+    let mut t = Four {
+        t0: 0.0,
+        t1: 0.0,
+        t2: 0.0,
+        t3: 0.0,
+    };
     let mut k: usize = 0;
     while k < inner {
-        let x = a[left + k];
-        t0 = t0 + x * b[right0 + k];
-        t1 = t1 + x * b[right1 + k];
-        t2 = t2 + x * b[right2 + k];
-        t3 = t3 + x * b[right3 + k];
+        t = fours::plus(t, fours::times(a[left + k], b, right + k, inner));
         k += 1;
     }
-    Four { t0, t1, t2, t3 }
+    t
 }
 
 // Row r, into c: four of b's rows at a time, then one by one.
 fn transb_row(inner: usize, cols: usize, a: &[f32], b: &[f32], r: usize, c: &mut [f32])
-    requires { ⌜ (1 ≤ inner) × (r * inner + inner ≤ length (now a)) × (cols * inner ≤ length (now b)) × (r * cols + cols ≤ length (now c)) ⌝ }
+    requires { ⌜ (r * inner + inner ≤ length (now a)) × (cols * inner ≤ length (now b)) × (r * cols + cols ≤ length (now c)) ⌝ }
     ensures { λ _. ⌜ now (c .exit) ≡ run (r * cols) cols (productT binary32 inner (now (a .entry)) (now (b .entry)) r) (now (c .entry)) ⌝ }
 {
     let at = r * cols;
@@ -69,7 +67,7 @@ fn transb_row(inner: usize, cols: usize, a: &[f32], b: &[f32], r: usize, c: &mut
 
 // The matrix, into c.
 pub fn transb_cells(rows: usize, inner: usize, cols: usize, a: &[f32], b: &[f32], c: &mut [f32])
-    requires { ⌜ (1 ≤ inner) × (rows * inner ≤ length (now a)) × (cols * inner ≤ length (now b)) × (rows * cols ≤ length (now c)) ⌝ }
+    requires { ⌜ (rows * inner ≤ length (now a)) × (cols * inner ≤ length (now b)) × (rows * cols ≤ length (now c)) ⌝ }
     ensures { λ _. ⌜ now (c .exit) ≡ grid rows cols (productT binary32 inner (now (a .entry)) (now (b .entry))) (now (c .entry)) ⌝ }
 {
     let mut r: usize = 0;
@@ -81,14 +79,13 @@ pub fn transb_cells(rows: usize, inner: usize, cols: usize, a: &[f32], b: &[f32]
 
 // Row r, added to c.
 fn transb_add_row(inner: usize, cols: usize, a: &[f32], b: &[f32], r: usize, c: &mut [f32])
-    requires { ⌜ (1 ≤ inner) × (r * inner + inner ≤ length (now a)) × (cols * inner ≤ length (now b)) × (r * cols + cols ≤ length (now c)) ⌝ }
+    requires { ⌜ (r * inner + inner ≤ length (now a)) × (cols * inner ≤ length (now b)) × (r * cols + cols ≤ length (now c)) ⌝ }
     ensures { λ _. ⌜ now (c .exit) ≡ run (r * cols) cols (λ j. add binary32 (cell cols (now (c .entry)) r j) (productT binary32 inner (now (a .entry)) (now (b .entry)) r j)) (now (c .entry)) ⌝ }
 {
     let at = r * cols;
     let mut j: usize = 0;
     while j + 4 <= cols {
-        let sums = fours::added(c, at + j, four_rows(inner, a, b, r, j));
-        fours::put(c, at + j, sums);
+        fours::add(c, at + j, four_rows(inner, a, b, r, j));
         j += 4;
     }
     while j < cols {
@@ -99,7 +96,7 @@ fn transb_add_row(inner: usize, cols: usize, a: &[f32], b: &[f32], r: usize, c: 
 
 // The matrix, added to c.
 pub fn transb_add_cells(rows: usize, inner: usize, cols: usize, a: &[f32], b: &[f32], c: &mut [f32])
-    requires { ⌜ (1 ≤ inner) × (rows * inner ≤ length (now a)) × (cols * inner ≤ length (now b)) × (rows * cols ≤ length (now c)) ⌝ }
+    requires { ⌜ (rows * inner ≤ length (now a)) × (cols * inner ≤ length (now b)) × (rows * cols ≤ length (now c)) ⌝ }
     ensures { λ _. ⌜ now (c .exit) ≡ grid rows cols (λ r j. add binary32 (cell cols (now (c .entry)) r j) (productT binary32 inner (now (a .entry)) (now (b .entry)) r j)) (now (c .entry)) ⌝ }
 {
     let mut r: usize = 0;
@@ -119,7 +116,7 @@ fn transb_scale_row(
     r: usize,
     c: &mut [f32],
 )
-    requires { ⌜ (1 ≤ inner) × (r * inner + inner ≤ length (now a)) × (cols * inner ≤ length (now b)) × (r * cols + cols ≤ length (now c)) ⌝ }
+    requires { ⌜ (r * inner + inner ≤ length (now a)) × (cols * inner ≤ length (now b)) × (r * cols + cols ≤ length (now c)) ⌝ }
     ensures { λ _. ⌜ now (c .exit) ≡ run (r * cols) cols (λ j. mul binary32 (productT binary32 inner (now (a .entry)) (now (b .entry)) r j) scale) (now (c .entry)) ⌝ }
 {
     let at = r * cols;
@@ -148,7 +145,7 @@ pub fn transb_scale_cells(
     scale: f32,
     c: &mut [f32],
 )
-    requires { ⌜ (1 ≤ inner) × (rows * inner ≤ length (now a)) × (cols * inner ≤ length (now b)) × (rows * cols ≤ length (now c)) ⌝ }
+    requires { ⌜ (rows * inner ≤ length (now a)) × (cols * inner ≤ length (now b)) × (rows * cols ≤ length (now c)) ⌝ }
     ensures { λ _. ⌜ now (c .exit) ≡ grid rows cols (λ r j. mul binary32 (productT binary32 inner (now (a .entry)) (now (b .entry)) r j) scale) (now (c .entry)) ⌝ }
 {
     let mut r: usize = 0;

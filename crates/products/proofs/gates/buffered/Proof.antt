@@ -1,5 +1,4 @@
 -- `gates::buffered` meets its contract: the answer without the auxiliary, and then its test. Assumes nothing.
-use mathlib.Core.Path.{_≡_, sym, ap, _∙_}
 use borrow.Author.Needs.{needs}
 use Rattle.products.specs.Answers.{bufferedAnswer, productAnswer}
 use Rattle.products.proofs.gates.buffered.Statement.{statement}

@@ -1,5 +1,4 @@
 -- `gates::product` meets its contract: the tests are those of the definition, in its order. Assumes nothing.
-use mathlib.Core.Path.{_≡_, sym, ap, _∙_}
 use borrow.Author.Needs.{needs}
 use Rattle.products.specs.Answers.{productAnswer}
 use Rattle.products.proofs.gates.product.Statement.{statement}

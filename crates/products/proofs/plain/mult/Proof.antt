@@ -1,5 +1,5 @@
 -- `plain::mult` meets its contract: the gate's answer decides, and the core writes what the promise says. Assumes nothing.
-use mathlib.Core.Path.{_≡_, sym, _∙_}
+use mathlib.Core.Path.{sym, _∙_}
 use borrow.Author.Needs.{needs}
 use Rattle.answers.proofs.Kept.{accepted}
 use Rattle.products.proofs.Shapes.{product-fits}

@@ -1,5 +1,5 @@
 -- `transb::mult_transb` meets its contract: the gate's answer decides, and the core writes what the promise says. Assumes nothing.
-use mathlib.Core.Path.{_≡_, sym, _∙_}
+use mathlib.Core.Path.{sym, _∙_}
 use borrow.Author.Needs.{needs}
 use Rattle.answers.proofs.Kept.{accepted}
 use Rattle.products.proofs.Shapes.{transposed-fits}
@@ -15,7 +15,7 @@ is-done-requires c κs = search needs
 transb-cells-requires : tie.Need-transb-cells-requires
 transb-cells-requires c κs =
     let s = transposed-fits _ _ _ _ _ _ (accepted (c .before .before .before .transposed .ensures) (c .before .before .is-done .ensures) (c .before .if1 .taken)) in
-    (s .inner-least, s .holds-left, s .holds-right, s .holds-into)
+    (s .holds-left, s .holds-right, s .holds-into)
 
 same-length : tie.Need-same-length
 same-length c = search needs

@@ -1,6 +1,6 @@
 -- `cores::mult::mult_row` meets its contract: a loop that writes four cells a turn, and one that goes on cell by cell. Assumes nothing.
-use mathlib.Core.Path.{_≡_, refl, _∙_}
-use Prim.Native.Nat.{ℕ, _-_, _*_}
+use mathlib.Core.Path.{refl, _∙_}
+use Prim.Native.Nat.{_-_, _*_}
 use native.Mathlib.Omega.{arith}
 use lib.Ieee.{binary32}
 use Rattle.row_major.proofs.Loops.{Writing, begun}

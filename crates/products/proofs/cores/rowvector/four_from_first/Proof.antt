@@ -1,126 +1,64 @@
 -- `cores::rowvector::four_from_first` meets its contract: a loop that adds each of the four entries' further terms to its first. Assumes nothing.
-use mathlib.Core.Path.{_≡_}
-use Prim.Native.Nat.{ℕ, _+_, _-_, _*_, _≤_}
+use mathlib.Core.Path.{refl, sym, _∙_}
+use Prim.Native.Nat.{_+_, _-_, _*_}
 use native.Mathlib.Nat.{add-zero}
 use native.Mathlib.Omega.{arith}
-use lib.ListN.{length, getD}
+use lib.ListN.{getD}
 use denote.Ref.{now}
 use lib.Ieee.{binary32, nan}
 use Rattle.data_type.specs.Sums.{products}
 use Rattle.row_major.specs.Grid.{cell}
-use Rattle.products.proofs.Totals.{AddingOn, begun-on, added-on, all-added-on}
-use Rattle.products.proofs.Turns.{FourIn, four-in}
+use Rattle.products.proofs.Places.{rows}
+use Rattle.products.proofs.Totals.{AddingOn, left-at, begun-on, added-on, all-added-on}
 use Rattle.products.proofs.cores.rowvector.four_from_first.Statement.{statement}
 use Rattle.products.proofs.cores.rowvector.four_from_first.Tie as tie
 
 abbrev Inv-loop : tie.InvT-loop
-Inv-loop inner a x r row0 row1 row2 row3 first t0₀ t1₀ t2₀ t3₀ k₀ t0 t1 t2 t3 k =
-    AddingOn binary32 (products binary32 (cell inner a r) (λ i. getD x i nan)) inner t0 k
-    × AddingOn binary32 (products binary32 (cell inner a (r + 1)) (λ i. getD x i nan)) inner t1 k
-    × AddingOn binary32 (products binary32 (cell inner a (r + 2)) (λ i. getD x i nan)) inner t2 k
-    × AddingOn binary32 (products binary32 (cell inner a (r + 3)) (λ i. getD x i nan)) inner t3 k
+Inv-loop inner a x r row t₀ k₀ t k =
+    AddingOn binary32 (products binary32 (cell inner a r) (λ i. getD x i nan)) inner (t .t0) k
+    × AddingOn binary32 (products binary32 (cell inner a (r + 1)) (λ i. getD x i nan)) inner (t .t1) k
+    × AddingOn binary32 (products binary32 (cell inner a (r + 2)) (λ i. getD x i nan)) inner (t .t2) k
+    × AddingOn binary32 (products binary32 (cell inner a (r + 3)) (λ i. getD x i nan)) inner (t .t3) k
 
 abbrev μ-loop : tie.MeasureT-loop
-μ-loop inner a x r row0 row1 row2 row3 first t0₀ t1₀ t2₀ t3₀ k₀ t0 t1 t2 t3 k = inner - k
+μ-loop inner a x r row t₀ k₀ t k = inner - k
 
--- the four rows lie in a
-in-a : (c : tie.Start Inv-loop μ-loop) → FourIn (c .args .inner) (c .args .r) (length (now (c .args .a)))
-in-a c = four-in _ _ _ (c .pre .0) (c .pre .1)
+mul-row : tie.Need-mul-row Inv-loop μ-loop
+mul-row c = omega arith
 
-mul-row0 : tie.Need-mul-row0 Inv-loop μ-loop
-mul-row0 c = omega (arith, in-a c)
+shared-slice-read-times : tie.Need-shared-slice-read-times Inv-loop μ-loop
+shared-slice-read-times c = omega arith
 
-add-row1 : tie.Need-add-row1 Inv-loop μ-loop
-add-row1 c = omega (arith, in-a c)
-
-mul-row1 : tie.Need-mul-row1 Inv-loop μ-loop
-mul-row1 c = omega (arith, in-a c)
-
-add-row2 : tie.Need-add-row2 Inv-loop μ-loop
-add-row2 c = omega (arith, in-a c)
-
-mul-row2 : tie.Need-mul-row2 Inv-loop μ-loop
-mul-row2 c = omega (arith, in-a c)
-
-add-row3 : tie.Need-add-row3 Inv-loop μ-loop
-add-row3 c = omega (arith, in-a c)
-
-mul-row3 : tie.Need-mul-row3 Inv-loop μ-loop
-mul-row3 c = omega (arith, in-a c)
-
-shared-slice-read-first : tie.Need-shared-slice-read-first Inv-loop μ-loop
-shared-slice-read-first c = omega arith
-
-mul-t0 : tie.Need-mul-t0 Inv-loop μ-loop
-mul-t0 c = omega (arith, in-a (c .before))
-
-shared-slice-read-t0 : tie.Need-shared-slice-read-t0 Inv-loop μ-loop
-shared-slice-read-t0 c = omega (arith, in-a (c .before .before))
-
-mul-t1 : tie.Need-mul-t1 Inv-loop μ-loop
-mul-t1 c = omega (arith, in-a (c .before .before))
-
-shared-slice-read-t1 : tie.Need-shared-slice-read-t1 Inv-loop μ-loop
-shared-slice-read-t1 c = omega (arith, in-a (c .before .before .before))
-
-mul-t2 : tie.Need-mul-t2 Inv-loop μ-loop
-mul-t2 c = omega (arith, in-a (c .before .before .before))
-
-shared-slice-read-t2 : tie.Need-shared-slice-read-t2 Inv-loop μ-loop
-shared-slice-read-t2 c = omega (arith, in-a (c .before .before .before .before))
-
-mul-t3 : tie.Need-mul-t3 Inv-loop μ-loop
-mul-t3 c = omega (arith, in-a (c .before .before .before .before))
-
-shared-slice-read-t3 : tie.Need-shared-slice-read-t3 Inv-loop μ-loop
-shared-slice-read-t3 c = omega (arith, in-a (c .before .before .before .before .before))
+times-requires : tie.Need-times-requires Inv-loop μ-loop
+times-requires c κs = omega arith
 
 loop-holds : tie.Need-loop-holds Inv-loop μ-loop
 loop-holds c =
-    let some = c .before .before .before .before .before .pre .0 in
-    (begun-on _ _ _ _ some (rw add-zero), begun-on _ _ _ _ some (rw add-zero), begun-on _ _ _ _ some (rw add-zero), begun-on _ _ _ _ some (rw add-zero))
+    let m = c .before .before .before .before .args in
+    let some = c .before .before .before .before .pre .0 in
+    let y = getD (now (m .x)) 0 nan in
+    let u = c .times .ensures in
+    let p = rows (m .inner) (m .r) 0 (m .r * m .inner) (sym (add-zero _)) in (
+      begun-on _ _ _ _ some (u .0 ∙ left-at binary32 y (now (m .a)) (p .first)),
+      begun-on _ _ _ _ some (u .1 ∙ left-at binary32 y (now (m .a)) (p .second)),
+      begun-on _ _ _ _ some (u .2 ∙ left-at binary32 y (now (m .a)) (p .third)),
+      begun-on _ _ _ _ some (u .3 ∙ left-at binary32 y (now (m .a)) (p .fourth)),
+    )
 
-mul-y : tie.Need-mul-y Inv-loop μ-loop
-mul-y c = omega arith
+mul-times : tie.Need-mul-times Inv-loop μ-loop
+mul-times c = omega arith
 
-shared-slice-read-y : tie.Need-shared-slice-read-y Inv-loop μ-loop
-shared-slice-read-y c = omega arith
+shared-slice-read-times-2 : tie.Need-shared-slice-read-times-2 Inv-loop μ-loop
+shared-slice-read-times-2 c = omega arith
 
-add-t0 : tie.Need-add-t0 Inv-loop μ-loop
-add-t0 c = omega (arith, in-a (c .before .before .before .before .before .before .before .before))
+add-times : tie.Need-add-times Inv-loop μ-loop
+add-times c = omega arith
 
-mul-t0-2 : tie.Need-mul-t0-2 Inv-loop μ-loop
-mul-t0-2 c = omega (arith, in-a (c .before .before .before .before .before .before .before .before))
+times-requires-2 : tie.Need-times-requires-2 Inv-loop μ-loop
+times-requires-2 c κs = omega arith
 
-shared-slice-read-t0-2 : tie.Need-shared-slice-read-t0-2 Inv-loop μ-loop
-shared-slice-read-t0-2 c = omega (arith, in-a (c .before .before .before .before .before .before .before .before .before))
-
-add-t1 : tie.Need-add-t1 Inv-loop μ-loop
-add-t1 c = omega (arith, in-a (c .before .before .before .before .before .before .before .before .before))
-
-mul-t1-2 : tie.Need-mul-t1-2 Inv-loop μ-loop
-mul-t1-2 c = omega (arith, in-a (c .before .before .before .before .before .before .before .before .before))
-
-shared-slice-read-t1-2 : tie.Need-shared-slice-read-t1-2 Inv-loop μ-loop
-shared-slice-read-t1-2 c = omega (arith, in-a (c .before .before .before .before .before .before .before .before .before .before))
-
-add-t2 : tie.Need-add-t2 Inv-loop μ-loop
-add-t2 c = omega (arith, in-a (c .before .before .before .before .before .before .before .before .before .before))
-
-mul-t2-2 : tie.Need-mul-t2-2 Inv-loop μ-loop
-mul-t2-2 c = omega (arith, in-a (c .before .before .before .before .before .before .before .before .before .before))
-
-shared-slice-read-t2-2 : tie.Need-shared-slice-read-t2-2 Inv-loop μ-loop
-shared-slice-read-t2-2 c = omega (arith, in-a (c .before .before .before .before .before .before .before .before .before .before .before))
-
-add-t3 : tie.Need-add-t3 Inv-loop μ-loop
-add-t3 c = omega (arith, in-a (c .before .before .before .before .before .before .before .before .before .before .before))
-
-mul-t3-2 : tie.Need-mul-t3-2 Inv-loop μ-loop
-mul-t3-2 c = omega (arith, in-a (c .before .before .before .before .before .before .before .before .before .before .before))
-
-shared-slice-read-t3-2 : tie.Need-shared-slice-read-t3-2 Inv-loop μ-loop
-shared-slice-read-t3-2 c = omega (arith, in-a (c .before .before .before .before .before .before .before .before .before .before .before .before))
+plus-requires : tie.Need-plus-requires Inv-loop μ-loop
+plus-requires c κs = tt
 
 add-k : tie.Need-add-k Inv-loop μ-loop
 add-k c = omega arith
@@ -130,9 +68,19 @@ loop-less c = omega arith
 
 loop-again : tie.Need-loop-again Inv-loop μ-loop
 loop-again c =
-    let top = c .before .before .before .before .before .before in
-    let in-turn = c .before .before .before .before .before .loop-test .taken in
-    (added-on _ _ _ _ _ (top .loop .inv .0) in-turn, added-on _ _ _ _ _ (top .loop .inv .1) in-turn, added-on _ _ _ _ _ (top .loop .inv .2) in-turn, added-on _ _ _ _ _ (top .loop .inv .3) in-turn)
+    let top = c .before .before .before .before in
+    let m = top .before .before .before .before .before .args in
+    let k = top .loop .k in
+    let x = getD (now (m .x)) k nan in
+    let s = c .plus .ensures in
+    let u = c .before .times2 .ensures in
+    let in-turn = c .before .before .before .loop-test .taken in
+    let p = rows (m .inner) (m .r) k _ refl in (
+      added-on _ _ _ _ _ _ _ (top .loop .inv .0) in-turn (s .0) (u .0 ∙ left-at binary32 x (now (m .a)) (p .first)),
+      added-on _ _ _ _ _ _ _ (top .loop .inv .1) in-turn (s .1) (u .1 ∙ left-at binary32 x (now (m .a)) (p .second)),
+      added-on _ _ _ _ _ _ _ (top .loop .inv .2) in-turn (s .2) (u .2 ∙ left-at binary32 x (now (m .a)) (p .third)),
+      added-on _ _ _ _ _ _ _ (top .loop .inv .3) in-turn (s .3) (u .3 ∙ left-at binary32 x (now (m .a)) (p .fourth)),
+    )
 
 returns : tie.Need-returns Inv-loop μ-loop
 returns c =
@@ -146,37 +94,15 @@ four-from-first-spec =
     (tie.spec
     Inv-loop
     μ-loop
-    mul-row0
-    add-row1
-    mul-row1
-    add-row2
-    mul-row2
-    add-row3
-    mul-row3
-    shared-slice-read-first
-    mul-t0
-    shared-slice-read-t0
-    mul-t1
-    shared-slice-read-t1
-    mul-t2
-    shared-slice-read-t2
-    mul-t3
-    shared-slice-read-t3
+    mul-row
+    shared-slice-read-times
+    times-requires
     loop-holds
-    mul-y
-    shared-slice-read-y
-    add-t0
-    mul-t0-2
-    shared-slice-read-t0-2
-    add-t1
-    mul-t1-2
-    shared-slice-read-t1-2
-    add-t2
-    mul-t2-2
-    shared-slice-read-t2-2
-    add-t3
-    mul-t3-2
-    shared-slice-read-t3-2
+    mul-times
+    shared-slice-read-times-2
+    add-times
+    times-requires-2
+    plus-requires
     add-k
     loop-less
     loop-again

@@ -1,6 +1,6 @@
 -- `cores::rowvector::rowvector_add_cells` meets its contract: a loop that adds to four cells a turn, and one that goes on cell by cell. Assumes nothing.
-use mathlib.Core.Path.{_≡_, refl, sym, _∙_}
-use Prim.Native.Nat.{ℕ, _-_}
+use mathlib.Core.Path.{sym, _∙_}
+use Prim.Native.Nat.{_-_}
 use native.Mathlib.Nat.{zero-add}
 use native.Mathlib.Omega.{arith}
 use lib.ListN.{getD}
@@ -9,7 +9,8 @@ use lib.Ieee.{binary32, nan, add}
 use Rattle.row_major.proofs.Grids.{row-in}
 use Rattle.row_major.proofs.Loops.{Writing, begun}
 use Rattle.products.specs.Entries.{rowProduct}
-use Rattle.products.proofs.Turns.{Onward, four-added, onward, one-added, to-front, all-onward, rows-in}
+use Rattle.products.proofs.Turns.{Onward, four-added, onward, one-added, to-front, all-onward}
+use Rattle.products.proofs.Places.{rows-in}
 use Rattle.products.proofs.cores.rowvector.rowvector_add_cells.Statement.{statement}
 use Rattle.products.proofs.cores.rowvector.rowvector_add_cells.Tie as tie
 
@@ -36,11 +37,8 @@ four-from-first-requires c κs =
     let m = c .before .before .before .before .before .before .args in
     omega (arith, rows-in (m .rows) (m .inner) (c .before .before .loop .r) (c .before .loop-test .taken))
 
-added-requires : tie.Need-added-requires Inv-loop μ-loop Inv-loop2 μ-loop2
-added-requires c κs = omega arith
-
-put-requires : tie.Need-put-requires Inv-loop μ-loop Inv-loop2 μ-loop2
-put-requires c κs = omega arith
+add-requires : tie.Need-add-requires Inv-loop μ-loop Inv-loop2 μ-loop2
+add-requires c κs = omega arith
 
 add-r : tie.Need-add-r Inv-loop μ-loop Inv-loop2 μ-loop2
 add-r c = omega arith
@@ -50,11 +48,10 @@ loop-less c = omega arith
 
 loop-again : tie.Need-loop-again Inv-loop μ-loop Inv-loop2 μ-loop2
 loop-again c =
-    let m = c .before .before .before .before .before .before .before .before .before .before .before .before .args in
+    let m = c .before .before .before .before .before .before .before .before .before .before .args in
     let h = rowProduct binary32 (m .inner) (now (m .a)) (now (m .x)) in
-    let t = c .before .before .before .before .before .four-from-first .ensures in
-    let s = c .before .before .before .before .added .ensures in
-    four-added binary32 h (to-front binary32 h (now (m .c))) (c .before .before .before .before .before .before .before .before .loop .inv) (c .before .before .before .before .before .before .before .loop-test .taken) (sym (zero-add _)) (s .0) (s .1) (s .2) (s .3) (t .0) (t .1) (t .2) (t .3) (c .before .before .put .ensures)
+    let t = c .before .before .before .four-from-first .ensures in
+    four-added binary32 h (to-front binary32 h (now (m .c))) (c .before .before .before .before .before .before .loop .inv) (c .before .before .before .before .before .loop-test .taken) (sym (zero-add _)) (t .0) (t .1) (t .2) (t .3) (c .before .before .add .ensures)
 
 loop2-holds : tie.Need-loop2-holds Inv-loop μ-loop Inv-loop2 μ-loop2
 loop2-holds c = onward (c .before .loop .inv .within)
@@ -86,7 +83,7 @@ loop2-again : tie.Need-loop2-again Inv-loop μ-loop Inv-loop2 μ-loop2
 loop2-again c =
     let m = c .before .before .before .before .before .before .before .before .before .args in
     let h = rowProduct binary32 (m .inner) (now (m .a)) (now (m .x)) in
-    one-added binary32 h (to-front binary32 h) (c .before .before .before .loop2 .inv) (c .before .before .loop2-test .taken) (sym (zero-add _)) refl (c .total-from-first .ensures)
+    one-added binary32 h (to-front binary32 h) (c .before .before .before .loop2 .inv) (c .before .before .loop2-test .taken) (sym (zero-add _)) (c .total-from-first .ensures)
 
 same-length : tie.Need-same-length Inv-loop μ-loop Inv-loop2 μ-loop2
 same-length c = c .before .loop2 .inv .size ∙ c .before .before .before .loop .inv .size
@@ -105,8 +102,7 @@ rowvector-add-cells-spec =
     loop-holds
     add-loop
     four-from-first-requires
-    added-requires
-    put-requires
+    add-requires
     add-r
     loop-less
     loop-again

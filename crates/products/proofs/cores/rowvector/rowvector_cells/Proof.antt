@@ -1,13 +1,14 @@
 -- `cores::rowvector::rowvector_cells` meets its contract: a loop that writes four cells a turn, and one that goes on cell by cell. Assumes nothing.
-use mathlib.Core.Path.{_≡_, refl, sym, _∙_}
-use Prim.Native.Nat.{ℕ, _-_}
+use mathlib.Core.Path.{sym, _∙_}
+use Prim.Native.Nat.{_-_}
 use native.Mathlib.Nat.{zero-add}
 use native.Mathlib.Omega.{arith}
 use lib.Ieee.{binary32}
 use Rattle.row_major.proofs.Grids.{row-in}
 use Rattle.row_major.proofs.Loops.{Writing, begun}
 use Rattle.products.specs.Entries.{rowProduct}
-use Rattle.products.proofs.Turns.{Onward, four-more, onward, one-onward, all-onward, rows-in}
+use Rattle.products.proofs.Turns.{Onward, four-more, onward, one-onward, all-onward}
+use Rattle.products.proofs.Places.{rows-in}
 use Rattle.products.proofs.cores.rowvector.rowvector_cells.Statement.{statement}
 use Rattle.products.proofs.cores.rowvector.rowvector_cells.Tie as tie
 

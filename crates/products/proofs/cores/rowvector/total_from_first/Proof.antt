@@ -1,6 +1,6 @@
 -- `cores::rowvector::total_from_first` meets its contract: a loop that adds the entry's further terms to the first. Assumes nothing.
-use mathlib.Core.Path.{_≡_}
-use Prim.Native.Nat.{ℕ, _-_}
+use mathlib.Core.Path.{refl}
+use Prim.Native.Nat.{_-_}
 use native.Mathlib.Nat.{add-zero}
 use native.Mathlib.Omega.{arith}
 use lib.ListN.{getD}
@@ -54,7 +54,7 @@ loop-less : tie.Need-loop-less Inv-loop μ-loop
 loop-less c = omega arith
 
 loop-again : tie.Need-loop-again Inv-loop μ-loop
-loop-again c = added-on _ _ _ _ _ (c .before .before .before .loop .inv) (c .before .before .loop-test .taken)
+loop-again c = added-on _ _ _ _ _ _ _ (c .before .before .before .loop .inv) (c .before .before .loop-test .taken) refl refl
 
 returns : tie.Need-returns Inv-loop μ-loop
 returns c = all-added-on _ _ _ _ _ (c .before .loop .inv) (c .loop-test .left)

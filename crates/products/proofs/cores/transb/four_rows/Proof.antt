@@ -1,102 +1,52 @@
 -- `cores::transb::four_rows` meets its contract: a loop that adds each of the four entries' terms to its own +0. Assumes nothing.
-use mathlib.Core.Path.{_≡_}
-use Prim.Native.Nat.{ℕ, _+_, _-_, _*_, _≤_}
+use mathlib.Core.Path.{refl, _∙_}
+use Prim.Native.Nat.{_+_, _-_}
 use native.Mathlib.Omega.{arith}
-use lib.ListN.{length}
 use denote.Ref.{now}
 use lib.Ieee.{binary32}
 use Rattle.data_type.specs.Sums.{plus0, products}
 use Rattle.row_major.specs.Grid.{cell}
-use Rattle.products.proofs.Totals.{Adding, zero-bits, begun, added, all-added}
-use Rattle.products.proofs.Turns.{FourIn, four-in}
+use Rattle.products.proofs.Places.{rows}
+use Rattle.products.proofs.Totals.{Adding, zero-bits, right-at, begun, added, all-added}
 use Rattle.products.proofs.cores.transb.four_rows.Statement.{statement}
 use Rattle.products.proofs.cores.transb.four_rows.Tie as tie
 
 abbrev Inv-loop : tie.InvT-loop
-Inv-loop inner a b r j left right0 right1 right2 right3 t0₀ t1₀ t2₀ t3₀ k₀ t0 t1 t2 t3 k =
-    Adding binary32 plus0 (products binary32 (cell inner a r) (cell inner b j)) inner t0 k
-    × Adding binary32 plus0 (products binary32 (cell inner a r) (cell inner b (j + 1))) inner t1 k
-    × Adding binary32 plus0 (products binary32 (cell inner a r) (cell inner b (j + 2))) inner t2 k
-    × Adding binary32 plus0 (products binary32 (cell inner a r) (cell inner b (j + 3))) inner t3 k
+Inv-loop inner a b r j left right t₀ k₀ t k =
+    Adding binary32 plus0 (products binary32 (cell inner a r) (cell inner b j)) inner (t .t0) k
+    × Adding binary32 plus0 (products binary32 (cell inner a r) (cell inner b (j + 1))) inner (t .t1) k
+    × Adding binary32 plus0 (products binary32 (cell inner a r) (cell inner b (j + 2))) inner (t .t2) k
+    × Adding binary32 plus0 (products binary32 (cell inner a r) (cell inner b (j + 3))) inner (t .t3) k
 
 abbrev μ-loop : tie.MeasureT-loop
-μ-loop inner a b r j left right0 right1 right2 right3 t0₀ t1₀ t2₀ t3₀ k₀ t0 t1 t2 t3 k = inner - k
-
--- the four rows lie in b
-in-b : (c : tie.Start Inv-loop μ-loop) → FourIn (c .args .inner) (c .args .j) (length (now (c .args .b)))
-in-b c = four-in _ _ _ (c .pre .0) (c .pre .2)
+μ-loop inner a b r j left right t₀ k₀ t k = inner - k
 
 mul-left : tie.Need-mul-left Inv-loop μ-loop
 mul-left c = omega arith
 
-mul-right0 : tie.Need-mul-right0 Inv-loop μ-loop
-mul-right0 c = omega (arith, in-b c)
-
-add-right1 : tie.Need-add-right1 Inv-loop μ-loop
-add-right1 c = omega (arith, in-b c)
-
-mul-right1 : tie.Need-mul-right1 Inv-loop μ-loop
-mul-right1 c = omega (arith, in-b c)
-
-add-right2 : tie.Need-add-right2 Inv-loop μ-loop
-add-right2 c = omega (arith, in-b c)
-
-mul-right2 : tie.Need-mul-right2 Inv-loop μ-loop
-mul-right2 c = omega (arith, in-b c)
-
-add-right3 : tie.Need-add-right3 Inv-loop μ-loop
-add-right3 c = omega (arith, in-b c)
-
-mul-right3 : tie.Need-mul-right3 Inv-loop μ-loop
-mul-right3 c = omega (arith, in-b c)
+mul-right : tie.Need-mul-right Inv-loop μ-loop
+mul-right c = omega arith
 
 loop-holds : tie.Need-loop-holds Inv-loop μ-loop
 loop-holds c = (begun _ _ _ _ _ zero-bits, begun _ _ _ _ _ zero-bits, begun _ _ _ _ _ zero-bits, begun _ _ _ _ _ zero-bits)
 
-add-x : tie.Need-add-x Inv-loop μ-loop
-add-x c = omega arith
+add-times : tie.Need-add-times Inv-loop μ-loop
+add-times c = omega arith
 
-mul-x : tie.Need-mul-x Inv-loop μ-loop
-mul-x c = omega arith
+mul-times : tie.Need-mul-times Inv-loop μ-loop
+mul-times c = omega arith
 
-shared-slice-read-x : tie.Need-shared-slice-read-x Inv-loop μ-loop
-shared-slice-read-x c = omega arith
+shared-slice-read-times : tie.Need-shared-slice-read-times Inv-loop μ-loop
+shared-slice-read-times c = omega arith
 
-add-t0 : tie.Need-add-t0 Inv-loop μ-loop
-add-t0 c = omega (arith, in-b (c .before .before .before))
+add-times-2 : tie.Need-add-times-2 Inv-loop μ-loop
+add-times-2 c = omega arith
 
-mul-t0 : tie.Need-mul-t0 Inv-loop μ-loop
-mul-t0 c = omega (arith, in-b (c .before .before .before))
+times-requires : tie.Need-times-requires Inv-loop μ-loop
+times-requires c κs = omega arith
 
-shared-slice-read-t0 : tie.Need-shared-slice-read-t0 Inv-loop μ-loop
-shared-slice-read-t0 c = omega (arith, in-b (c .before .before .before .before))
-
-add-t1 : tie.Need-add-t1 Inv-loop μ-loop
-add-t1 c = omega (arith, in-b (c .before .before .before .before))
-
-mul-t1 : tie.Need-mul-t1 Inv-loop μ-loop
-mul-t1 c = omega (arith, in-b (c .before .before .before .before))
-
-shared-slice-read-t1 : tie.Need-shared-slice-read-t1 Inv-loop μ-loop
-shared-slice-read-t1 c = omega (arith, in-b (c .before .before .before .before .before))
-
-add-t2 : tie.Need-add-t2 Inv-loop μ-loop
-add-t2 c = omega (arith, in-b (c .before .before .before .before .before))
-
-mul-t2 : tie.Need-mul-t2 Inv-loop μ-loop
-mul-t2 c = omega (arith, in-b (c .before .before .before .before .before))
-
-shared-slice-read-t2 : tie.Need-shared-slice-read-t2 Inv-loop μ-loop
-shared-slice-read-t2 c = omega (arith, in-b (c .before .before .before .before .before .before))
-
-add-t3 : tie.Need-add-t3 Inv-loop μ-loop
-add-t3 c = omega (arith, in-b (c .before .before .before .before .before .before))
-
-mul-t3 : tie.Need-mul-t3 Inv-loop μ-loop
-mul-t3 c = omega (arith, in-b (c .before .before .before .before .before .before))
-
-shared-slice-read-t3 : tie.Need-shared-slice-read-t3 Inv-loop μ-loop
-shared-slice-read-t3 c = omega (arith, in-b (c .before .before .before .before .before .before .before))
+plus-requires : tie.Need-plus-requires Inv-loop μ-loop
+plus-requires c κs = tt
 
 add-k : tie.Need-add-k Inv-loop μ-loop
 add-k c = omega arith
@@ -106,9 +56,19 @@ loop-less c = omega arith
 
 loop-again : tie.Need-loop-again Inv-loop μ-loop
 loop-again c =
-    let top = c .before .before .before .before .before .before in
-    let in-turn = c .before .before .before .before .before .loop-test .taken in
-    (added _ _ _ _ _ _ (top .loop .inv .0) in-turn, added _ _ _ _ _ _ (top .loop .inv .1) in-turn, added _ _ _ _ _ _ (top .loop .inv .2) in-turn, added _ _ _ _ _ _ (top .loop .inv .3) in-turn)
+    let top = c .before .before .before .before in
+    let m = top .before .before .before .args in
+    let k = top .loop .k in
+    let x = cell (m .inner) (now (m .a)) (m .r) k in
+    let s = c .plus .ensures in
+    let u = c .before .times .ensures in
+    let in-turn = c .before .before .before .loop-test .taken in
+    let p = rows (m .inner) (m .j) k _ refl in (
+      added _ _ _ _ _ _ _ _ (top .loop .inv .0) in-turn (s .0) (u .0 ∙ right-at binary32 x (now (m .b)) (p .first)),
+      added _ _ _ _ _ _ _ _ (top .loop .inv .1) in-turn (s .1) (u .1 ∙ right-at binary32 x (now (m .b)) (p .second)),
+      added _ _ _ _ _ _ _ _ (top .loop .inv .2) in-turn (s .2) (u .2 ∙ right-at binary32 x (now (m .b)) (p .third)),
+      added _ _ _ _ _ _ _ _ (top .loop .inv .3) in-turn (s .3) (u .3 ∙ right-at binary32 x (now (m .b)) (p .fourth)),
+    )
 
 returns : tie.Need-returns Inv-loop μ-loop
 returns c =
@@ -123,29 +83,14 @@ four-rows-spec =
     Inv-loop
     μ-loop
     mul-left
-    mul-right0
-    add-right1
-    mul-right1
-    add-right2
-    mul-right2
-    add-right3
-    mul-right3
+    mul-right
     loop-holds
-    add-x
-    mul-x
-    shared-slice-read-x
-    add-t0
-    mul-t0
-    shared-slice-read-t0
-    add-t1
-    mul-t1
-    shared-slice-read-t1
-    add-t2
-    mul-t2
-    shared-slice-read-t2
-    add-t3
-    mul-t3
-    shared-slice-read-t3
+    add-times
+    mul-times
+    shared-slice-read-times
+    add-times-2
+    times-requires
+    plus-requires
     add-k
     loop-less
     loop-again

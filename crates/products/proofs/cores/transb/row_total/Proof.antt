@@ -1,6 +1,6 @@
 -- `cores::transb::row_total` meets its contract: a loop that adds the entry's terms to +0, k of them before turn k. Assumes nothing.
-use mathlib.Core.Path.{_≡_}
-use Prim.Native.Nat.{ℕ, _-_}
+use mathlib.Core.Path.{refl}
+use Prim.Native.Nat.{_-_}
 use native.Mathlib.Omega.{arith}
 use lib.Ieee.{binary32}
 use Rattle.data_type.specs.Sums.{plus0, products}
@@ -49,7 +49,7 @@ loop-less : tie.Need-loop-less Inv-loop μ-loop
 loop-less c = omega arith
 
 loop-again : tie.Need-loop-again Inv-loop μ-loop
-loop-again c = added _ _ _ _ _ _ (c .before .before .before .loop .inv) (c .before .before .loop-test .taken)
+loop-again c = added _ _ _ _ _ _ _ _ (c .before .before .before .loop .inv) (c .before .before .loop-test .taken) refl refl
 
 returns : tie.Need-returns Inv-loop μ-loop
 returns c = all-added _ _ _ _ _ _ (c .before .loop .inv) (c .loop-test .left)

@@ -1,6 +1,5 @@
 -- `cores::transb::transb_add_cells` meets its contract: a loop that writes row after row. Assumes nothing.
-use mathlib.Core.Path.{_≡_, refl}
-use Prim.Native.Nat.{ℕ, _-_}
+use Prim.Native.Nat.{_-_}
 use native.Mathlib.Omega.{arith}
 use lib.Ieee.{binary32, add}
 use Rattle.row_major.specs.Grid.{cell}

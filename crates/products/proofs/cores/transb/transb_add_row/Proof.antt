@@ -1,13 +1,14 @@
 -- `cores::transb::transb_add_row` meets its contract: a loop that adds to four cells a turn, and one that goes on cell by cell. Assumes nothing.
-use mathlib.Core.Path.{_≡_, refl, _∙_}
-use Prim.Native.Nat.{ℕ, _-_, _*_}
+use mathlib.Core.Path.{refl, _∙_}
+use Prim.Native.Nat.{_-_, _*_}
 use native.Mathlib.Omega.{arith}
 use lib.Ieee.{binary32, add}
 use Rattle.row_major.specs.Grid.{cell}
 use Rattle.row_major.proofs.Grids.{row-in}
 use Rattle.row_major.proofs.Loops.{Writing, begun}
 use Rattle.products.specs.Entries.{productT}
-use Rattle.products.proofs.Turns.{Onward, four-added, onward, one-added, all-onward, rows-in}
+use Rattle.products.proofs.Turns.{Onward, four-added, onward, one-added, all-onward}
+use Rattle.products.proofs.Places.{rows-in}
 use Rattle.products.proofs.cores.transb.transb_add_row.Statement.{statement}
 use Rattle.products.proofs.cores.transb.transb_add_row.Tie as tie
 
@@ -32,22 +33,16 @@ loop-holds c = begun _ _ _ _
 add-loop : tie.Need-add-loop Inv-loop μ-loop Inv-loop2 μ-loop2
 add-loop c = omega arith
 
-add-added : tie.Need-add-added Inv-loop μ-loop Inv-loop2 μ-loop2
-add-added c = omega arith
+add-add : tie.Need-add-add Inv-loop μ-loop Inv-loop2 μ-loop2
+add-add c = omega arith
 
 four-rows-requires : tie.Need-four-rows-requires Inv-loop μ-loop Inv-loop2 μ-loop2
 four-rows-requires c κs =
     let m = c .before .before .before .before .before .before .args in
     omega (arith, rows-in (m .cols) (m .inner) (c .before .before .loop .j) (c .before .loop-test .taken))
 
-added-requires : tie.Need-added-requires Inv-loop μ-loop Inv-loop2 μ-loop2
-added-requires c κs = omega arith
-
-add-put : tie.Need-add-put Inv-loop μ-loop Inv-loop2 μ-loop2
-add-put c = omega arith
-
-put-requires : tie.Need-put-requires Inv-loop μ-loop Inv-loop2 μ-loop2
-put-requires c κs = omega arith
+add-requires : tie.Need-add-requires Inv-loop μ-loop Inv-loop2 μ-loop2
+add-requires c κs = omega arith
 
 add-j : tie.Need-add-j Inv-loop μ-loop Inv-loop2 μ-loop2
 add-j c = omega arith
@@ -57,9 +52,8 @@ loop-less c = omega arith
 
 loop-again : tie.Need-loop-again Inv-loop μ-loop Inv-loop2 μ-loop2
 loop-again c =
-    let t = c .before .before .before .before .before .four-rows .ensures in
-    let s = c .before .before .before .before .added .ensures in
-    four-added binary32 _ (λ i. refl) (c .before .before .before .before .before .before .before .before .loop .inv) (c .before .before .before .before .before .before .before .loop-test .taken) refl (s .0) (s .1) (s .2) (s .3) (t .0) (t .1) (t .2) (t .3) (c .before .before .put .ensures)
+    let t = c .before .before .before .four-rows .ensures in
+    four-added binary32 _ (λ i. refl) (c .before .before .before .before .before .before .loop .inv) (c .before .before .before .before .before .loop-test .taken) refl (t .0) (t .1) (t .2) (t .3) (c .before .before .add .ensures)
 
 loop2-holds : tie.Need-loop2-holds Inv-loop μ-loop Inv-loop2 μ-loop2
 loop2-holds c = onward (c .before .loop .inv .within)
@@ -94,7 +88,7 @@ loop2-less : tie.Need-loop2-less Inv-loop μ-loop Inv-loop2 μ-loop2
 loop2-less c = omega arith
 
 loop2-again : tie.Need-loop2-again Inv-loop μ-loop Inv-loop2 μ-loop2
-loop2-again c = one-added binary32 _ (λ z i. refl) (c .before .before .before .loop2 .inv) (c .before .before .loop2-test .taken) refl refl (c .row-total .ensures)
+loop2-again c = one-added binary32 _ (λ z i. refl) (c .before .before .before .loop2 .inv) (c .before .before .loop2-test .taken) refl (c .row-total .ensures)
 
 same-length : tie.Need-same-length Inv-loop μ-loop Inv-loop2 μ-loop2
 same-length c = c .before .loop2 .inv .size ∙ c .before .before .before .loop .inv .size
@@ -113,11 +107,9 @@ transb-add-row-spec =
     mul-at
     loop-holds
     add-loop
-    add-added
+    add-add
     four-rows-requires
-    added-requires
-    add-put
-    put-requires
+    add-requires
     add-j
     loop-less
     loop-again

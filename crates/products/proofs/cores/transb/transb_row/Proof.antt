@@ -1,12 +1,13 @@
 -- `cores::transb::transb_row` meets its contract: a loop that writes four cells a turn, and one that goes on cell by cell. Assumes nothing.
-use mathlib.Core.Path.{_≡_, refl, _∙_}
-use Prim.Native.Nat.{ℕ, _-_, _*_}
+use mathlib.Core.Path.{refl, _∙_}
+use Prim.Native.Nat.{_-_, _*_}
 use native.Mathlib.Omega.{arith}
 use lib.Ieee.{binary32}
 use Rattle.row_major.proofs.Grids.{row-in}
 use Rattle.row_major.proofs.Loops.{Writing, begun}
 use Rattle.products.specs.Entries.{productT}
-use Rattle.products.proofs.Turns.{Onward, four-more, onward, one-onward, all-onward, rows-in}
+use Rattle.products.proofs.Turns.{Onward, four-more, onward, one-onward, all-onward}
+use Rattle.products.proofs.Places.{rows-in}
 use Rattle.products.proofs.cores.transb.transb_row.Statement.{statement}
 use Rattle.products.proofs.cores.transb.transb_row.Tie as tie
 

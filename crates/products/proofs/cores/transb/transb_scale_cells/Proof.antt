@@ -1,6 +1,6 @@
 -- `cores::transb::transb_scale_cells` meets its contract: a loop that writes row after row. Assumes nothing.
-use mathlib.Core.Path.{_≡_, refl}
-use Prim.Native.Nat.{ℕ, _-_}
+use mathlib.Core.Path.{refl}
+use Prim.Native.Nat.{_-_}
 use native.Mathlib.Omega.{arith}
 use lib.Ieee.{binary32, mul}
 use Rattle.row_major.proofs.Grids.{row-in}
