@@ -3,3 +3,4 @@ mod Entries
 mod Steps
 mod Shapes
 mod Calls
+pub mod Theorems
