@@ -3,13 +3,15 @@
 mod calls;
 mod check;
 mod examples;
+mod faults;
 mod generate;
 mod inputs;
 mod model;
 mod original;
 mod selftest;
 
-use calls::{write_line, Function, ALL};
+use calls::{write_line, Function, Tag, ALL};
+use faults::Fault;
 use generate::{Calls, Plan};
 use std::io::{BufWriter, Write};
 use std::process::ExitCode;
@@ -18,6 +20,8 @@ const USAGE: &str = "usage:
   oracle [--seed N] [--lines N] [--functions a,b,c]   a list, on standard output
   oracle --small [--seed N]                           the fixed list of document 01's examples and some
                                                       3,000 lines, mostly of small sizes
+  oracle .. --fault NAME                              the same list with the answers of a program that makes
+                                                      this mistake; --faults lists them
   oracle --check [FILE]                               reads a list (standard input if no file), runs the
                                                       original again, reports differences and counts
   oracle --self-test                                  the toolchain, document 01's examples, agreement
@@ -36,6 +40,7 @@ fn main() -> ExitCode {
     let mut lines = None;
     let mut functions: Vec<Function> = ALL.to_vec();
     let mut small = false;
+    let mut fault = None;
     let mut args = std::env::args().skip(1);
     while let Some(arg) = args.next() {
         match arg.as_str() {
@@ -59,6 +64,17 @@ fn main() -> ExitCode {
                 }
             }
             "--small" => small = true,
+            "--fault" => {
+                let name = args.next().unwrap_or_default();
+                fault = faults::NAMES.iter().find(|(n, _)| *n == name).map(|(_, f)| *f);
+                if fault.is_none() {
+                    return fail(&format!("no fault '{name}'"));
+                }
+            }
+            "--faults" => {
+                faults::NAMES.iter().for_each(|(name, _)| println!("{name}"));
+                return ExitCode::SUCCESS;
+            }
             "--check" => {
                 let ok = match args.next() {
                     None => check::run(std::io::stdin().lock()),
@@ -92,7 +108,7 @@ fn main() -> ExitCode {
     }
     let plan = if small { Plan::Small } else { Plan::Even };
     let count = lines.unwrap_or(if small { SMALL_LINES } else { 20_000 });
-    match list(plan, seed, count, &functions) {
+    match list(plan, seed, count, &functions, fault) {
         Ok(()) => ExitCode::SUCCESS,
         Err(e) => {
             eprintln!("oracle: {e}");
@@ -101,7 +117,13 @@ fn main() -> ExitCode {
     }
 }
 
-fn list(plan: Plan, seed: u64, count: usize, functions: &[Function]) -> Result<(), String> {
+fn list(
+    plan: Plan,
+    seed: u64,
+    count: usize,
+    functions: &[Function],
+    fault: Option<Fault>,
+) -> Result<(), String> {
     let mut out = BufWriter::with_capacity(1 << 16, std::io::stdout().lock());
     let mut put = |line: &str| writeln!(out, "{line}").map_err(|e| e.to_string());
     put("# Calls and answers of minikalman 0.8.1 (f32, feature std) under document 01's rules; see oracle/FORMAT.md.")?;
@@ -124,8 +146,11 @@ fn list(plan: Plan, seed: u64, count: usize, functions: &[Function]) -> Result<(
         .into_iter()
         .filter(|c| functions.contains(&c.function));
     for call in examples.chain(Calls::new(plan, seed, functions).take(count)) {
-        let (tag, answer) = original::answer(&call)
-            .map_err(|e| format!("{} at sizes {:?}: {e}", call.function.name(), call.sizes))?;
+        let (tag, answer) = match fault {
+            Some(fault) => (Tag::Rust, faults::with(fault, || model::answer(&call)).0),
+            None => original::answer(&call)
+                .map_err(|e| format!("{} at sizes {:?}: {e}", call.function.name(), call.sizes))?,
+        };
         write_line(&mut line, &call, tag, &answer);
         put(&line)?
     }

@@ -3,6 +3,7 @@
 //! it is held against the original, bit for bit.
 
 use crate::calls::{Answer, Call, Function, Places};
+use crate::faults::{planted, Fault};
 
 /// Refusals 1 to 3: number and what it carries. Which size, which buffer, and row (0) before column (1)
 /// are counted from 0 in document 01's order.
@@ -94,20 +95,38 @@ fn recip(v: f32) -> f32 {
     1.0 / v
 }
 
+/// sum + a * b, each rounded.
+fn plus(sum: f32, (a, b): (f32, f32)) -> f32 {
+    if planted(Fault::FusedMultiplyAdd) {
+        return a.mul_add(b, sum);
+    }
+    sum + a * b
+}
+
+/// The k-th of count terms in the order in which they are added.
+fn turn(count: usize, k: usize) -> usize {
+    if planted(Fault::FarEnd) {
+        count - 1 - k
+    } else {
+        k
+    }
+}
+
 /// Total of a(k) * b(k), from +0, for k upward.
-fn total(count: usize, term: impl Fn(usize) -> f32) -> f32 {
+fn total(count: usize, term: impl Fn(usize) -> (f32, f32)) -> f32 {
     let mut sum = 0.0;
     for k in 0..count {
-        sum += term(k)
+        sum = plus(sum, term(turn(count, k)))
     }
     sum
 }
 
 /// The same with the first product as its start.
-fn total_from_first(count: usize, term: impl Fn(usize) -> f32) -> f32 {
-    let mut sum = term(0);
+fn total_from_first(count: usize, term: impl Fn(usize) -> (f32, f32)) -> f32 {
+    let (a, b) = term(turn(count, 0));
+    let mut sum = a * b;
     for k in 1..count {
-        sum += term(k)
+        sum = plus(sum, term(turn(count, k)))
     }
     sum
 }
@@ -115,7 +134,7 @@ fn total_from_first(count: usize, term: impl Fn(usize) -> f32) -> f32 {
 fn mult(rows: usize, inner: usize, columns: usize, a: &[f32], b: &[f32], c: &mut [f32]) {
     for i in 0..rows {
         for j in 0..columns {
-            c[i * columns + j] = total(inner, |k| a[i * inner + k] * b[k * columns + j])
+            c[i * columns + j] = total(inner, |k| (a[i * inner + k], b[k * columns + j]))
         }
     }
 }
@@ -130,7 +149,7 @@ fn transb(
 ) {
     for i in 0..rows {
         for j in 0..columns {
-            let sum = total(inner, |k| a[i * inner + k] * b[j * inner + k]);
+            let sum = total(inner, |k| (a[i * inner + k], b[j * inner + k]));
             c[i * columns + j] = put(c[i * columns + j], sum)
         }
     }
@@ -144,7 +163,13 @@ fn rowvector(
     put: impl Fn(f32, f32) -> f32,
 ) {
     for i in 0..rows {
-        c[i] = put(c[i], total_from_first(inner, |k| a[i * inner + k] * x[k]))
+        let term = |k: usize| (a[i * inner + k], x[k]);
+        let sum = if planted(Fault::RowVectorStart) {
+            total(inner, term)
+        } else {
+            total_from_first(inner, term)
+        };
+        c[i] = put(c[i], sum)
     }
 }
 
@@ -155,8 +180,8 @@ pub fn decompose(n: usize, t: &mut [f32]) -> Result<(), (usize, f32)> {
         for j in i..n {
             let mut sum = t[i * n + j];
             for k in 0..i {
-                let product = t[i * n + k] * t[j * n + k];
-                sum -= product
+                let k = turn(i, k);
+                sum = plus(sum, (-t[i * n + k], t[j * n + k]))
             }
             t[j * n + i] = sum * d;
             if i == j {
@@ -177,26 +202,32 @@ pub fn decompose(n: usize, t: &mut [f32]) -> Result<(), (usize, f32)> {
     Ok(())
 }
 
+/// s with the inner sum of the inverse added; an empty one changes nothing.
+fn with_inner(s: f32, count: usize, term: impl Fn(usize) -> (f32, f32)) -> f32 {
+    if planted(Fault::ZeroStart) {
+        s + total(count, term)
+    } else if count == 0 {
+        s
+    } else {
+        s + total_from_first(count, term)
+    }
+}
+
 fn invert(n: usize, l: &[f32], inv: &mut [f32]) {
     for i in 0..n {
         let d = recip(l[i * n + i]);
         for j in 0..=i {
-            let mut sum = if i == j { 1.0 } else { 0.0 };
-            if j < i {
-                sum += total_from_first(i - j, |k| -l[i * n + j + k] * inv[j * n + j + k])
-            }
-            inv[j * n + i] = sum * d
+            let start = if i == j { 1.0 } else { 0.0 };
+            let term = |k: usize| (-l[i * n + j + k], inv[j * n + j + k]);
+            inv[j * n + i] = with_inner(start, i - j, term) * d
         }
     }
     for i in (0..n).rev() {
         let d = recip(l[i * n + i]);
+        let from = i + 1;
         for j in 0..=i {
-            let mut sum = inv[j * n + i];
-            if i + 1 < n {
-                let from = i + 1;
-                sum +=
-                    total_from_first(n - from, |k| -l[(from + k) * n + i] * inv[j * n + from + k])
-            }
+            let term = |k: usize| (-l[(from + k) * n + i], inv[j * n + from + k]);
+            let sum = with_inner(inv[j * n + i], n - from, term);
             inv[i * n + j] = sum * d;
             inv[j * n + i] = sum * d
         }
@@ -233,8 +264,12 @@ fn update(n: usize, m: usize, lent: &mut [Vec<f32>]) -> Result<(), (usize, f32)>
     for i in 0..m * m {
         s[i] += r[i]
     }
+    let spread = s[0];
     decompose(m, s)?;
     invert(m, s, s_inv);
+    if m == 1 && planted(Fault::OneReciprocal) {
+        s_inv[0] = recip(spread)
+    }
     transb((n, n, m), p, h, pht, |_, sum| sum);
     mult(n, m, m, pht, s_inv, k);
     rowvector((n, m), k, y, x, |c, sum| c + sum);

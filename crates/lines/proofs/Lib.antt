@@ -2,3 +2,5 @@
 mod Digits
 pub mod Unique
 pub mod Examples
+mod Nan
+pub mod Spelling

@@ -1,4 +1,14 @@
-// Reading lists of bit patterns: hexadecimal numbers of eight digits, and where a line ends.
+// Reading lists of bit patterns: hexadecimal numbers of eight digits, words, where a line ends, and
+// the floats that patterns stand for.
+mod pattern;
+mod words;
+
+pub use pattern::bits_of;
+pub use pattern::float_of;
+pub use pattern::same;
+pub use words::LOST;
+pub use words::Word;
+pub use words::word_at;
 ghost use mathlib.Core.Path.{_≡_};
 ghost use lib.ListN.{getD};
 ghost use Rattle.lines.specs.Hex.{digitOf, hex8At};

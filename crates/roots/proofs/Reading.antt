@@ -1,19 +1,13 @@
 -- The cases of `lineOf`, by what the tests of `read_line` found. Assumes nothing.
 use mathlib.Core.Path.{_≡_}
 use mathlib.Core.List.{List}
-use Prim.Native.Nat.{ℕ, _+_, _≤_, _<_}
-use native.Mathlib.Nat.{lt-of-not-le}
-use native.Mathlib.Omega.{arith}
-use lib.ListN.{length, getD, List·getD-eq-default}
+use Prim.Native.Nat.{ℕ, _+_}
+use lib.ListN.{getD}
 use borrow.Author.Tests.{eq-eqb, ne-eqb}
 use Rattle.lines.specs.declared.Read.the-variants as read
 use Rattle.lines.specs.Hex.{hex8At}
 use Rattle.roots.specs.declared.line.Line.the-variants.{Comment, Pair, Bad}
 use Rattle.roots.specs.Line.{lineOf}
-
--- a space stands within the list, since past its end `getD` answers 0
-pub held : (s : List ℕ) (p : ℕ) → getD s p 0 ≡ 32 → p < length s
-held s p e = lt-of-not-le (λ (h : length s ≤ p). let z = List·getD-eq-default s 0 h in omega arith)
 
 module _ (s : List ℕ) (at end : ℕ) where
   pub comment : getD s at 0 ≡ 35 → Comment ≡ lineOf s at end

@@ -3,7 +3,8 @@
 use mathlib.Core.Path.{sym, _∙_}
 use native.Mathlib.Omega.{arith}
 use denote.Ref.{now}
-use Rattle.roots.proofs.Reading.{held, comment, no-argument, no-space, no-root, whole, too-long}
+use Rattle.lines.proofs.Spelling.{held}
+use Rattle.roots.proofs.Reading.{comment, no-argument, no-space, no-root, whole, too-long}
 use borrow.Author.Needs.{needs}
 use Rattle.roots.proofs.line.read_line.Statement.{statement}
 use Rattle.roots.proofs.line.read_line.Tie as tie

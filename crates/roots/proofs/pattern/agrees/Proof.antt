@@ -2,7 +2,7 @@
 -- Assumes nothing.
 use mathlib.Core.Path.{ap, _∙_}
 use Prim.Native.Nat.{ℕ}
-use Rattle.roots.specs.Pattern.{sameBits}
+use Rattle.lines.specs.Pattern.{sameBits}
 use borrow.Author.Needs.{needs}
 use Rattle.roots.proofs.pattern.agrees.Statement.{statement}
 use Rattle.roots.proofs.pattern.agrees.Tie as tie

@@ -3,7 +3,7 @@
 use mathlib.Core.Path.{ap, _∙_}
 use lib.Ieee.{binary32}
 use Rattle.data_type.specs.Root.{sqrtOf}
-use Rattle.roots.specs.Pattern.{bitsOf}
+use Rattle.lines.specs.Pattern.{bitsOf}
 use borrow.Author.Needs.{needs}
 use Rattle.roots.proofs.pattern.root_bits.Statement.{statement}
 use Rattle.roots.proofs.pattern.root_bits.Tie as tie

@@ -6,7 +6,7 @@ use lib.Dec.{T, eqb}
 use lib.Ieee.{Float, nan, inf, fin, binary32, ofBits, toBits, nanBits, isNan, ne, div}
 use lib.Ieee.Bits.{nanBits-is}
 use lib.Ieee.Compare.{differs-from-itself}
-use Rattle.roots.specs.Pattern.{bitsOf, sameBits}
+use Rattle.lines.specs.Pattern.{bitsOf, sameBits}
 
 -- ---- x != x
 pub nan-differs : (x : Float) → ne x x ≡ true → isNan x ≡ true

@@ -1,8 +1,8 @@
 -- `pattern::bits_of` meets its contract: the test `x != x` tells a NaN.
 -- Assumes nothing.
-use Rattle.roots.proofs.Nan.{nan-differs, number-same, no-nan, bits-of-nan, bits-of-number}
-use Rattle.roots.proofs.pattern.bits_of.Statement.{statement}
-use Rattle.roots.proofs.pattern.bits_of.Tie as tie
+use Rattle.lines.proofs.Nan.{nan-differs, number-same, no-nan, bits-of-nan, bits-of-number}
+use Rattle.lines.proofs.pattern.bits_of.Statement.{statement}
+use Rattle.lines.proofs.pattern.bits_of.Tie as tie
 
 float-to-bits-result : tie.Need-float-to-bits-result
 float-to-bits-result c = no-nan _ (number-same _ (c .if1 .left))

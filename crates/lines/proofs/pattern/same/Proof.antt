@@ -1,10 +1,10 @@
 -- `pattern::same` meets its contract: what the first test tells picks the case of `sameBits`.
 -- Assumes nothing.
 use mathlib.Core.Path.{sym, _∙_}
-use Rattle.roots.proofs.Nan.{same-nan, same-number}
+use Rattle.lines.proofs.Nan.{same-nan, same-number}
 use borrow.Author.Needs.{needs}
-use Rattle.roots.proofs.pattern.same.Statement.{statement}
-use Rattle.roots.proofs.pattern.same.Tie as tie
+use Rattle.lines.proofs.pattern.same.Statement.{statement}
+use Rattle.lines.proofs.pattern.same.Tie as tie
 
 is-nan-requires : tie.Need-is-nan-requires
 is-nan-requires c κs = search needs

@@ -1,10 +1,10 @@
 -- `pattern::float_of` meets its contract: a NaN's pattern stands for the quotient 0.0 / 0.0, and any other goes to `from_bits`.
 -- Assumes nothing.
 use mathlib.Core.Path.{sym, _∙_}
-use Rattle.roots.proofs.Nan.{no-nan, nan-of}
+use Rattle.lines.proofs.Nan.{no-nan, nan-of}
 use borrow.Author.Needs.{needs}
-use Rattle.roots.proofs.pattern.float_of.Statement.{statement}
-use Rattle.roots.proofs.pattern.float_of.Tie as tie
+use Rattle.lines.proofs.pattern.float_of.Statement.{statement}
+use Rattle.lines.proofs.pattern.float_of.Tie as tie
 
 is-nan-requires : tie.Need-is-nan-requires
 is-nan-requires c κs = search needs

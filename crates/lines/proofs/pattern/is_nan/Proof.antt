@@ -3,8 +3,8 @@
 use mathlib.Core.Path.{sym}
 use lib.Ieee.{binary32}
 use lib.Ieee.Bits.{nanBits-above}
-use Rattle.roots.proofs.pattern.is_nan.Statement.{statement}
-use Rattle.roots.proofs.pattern.is_nan.Tie as tie
+use Rattle.lines.proofs.pattern.is_nan.Statement.{statement}
+use Rattle.lines.proofs.pattern.is_nan.Tie as tie
 
 returns : tie.Need-returns
 returns c = sym (nanBits-above binary32 (c .args .b))

@@ -1,0 +1,43 @@
+//! Wrong readings of document 01, planted on purpose: with one of them the steps of `model` give the
+//! answers of a program that made this mistake, and a comparison must find them.
+
+use std::cell::Cell;
+
+#[derive(Clone, Copy, PartialEq)]
+pub enum Fault {
+    /// Product and sum rounded once, in the products and in the decomposition.
+    FusedMultiplyAdd,
+    /// The inner sums of the inverse start at +0, the empty ones too.
+    ZeroStart,
+    /// For one observation the inverse of S is 1/S.
+    OneReciprocal,
+    /// Sums are taken from the last term to the first.
+    FarEnd,
+    /// The products with a vector start at +0.
+    RowVectorStart,
+}
+
+pub const NAMES: [(&str, Fault); 5] = [
+    ("fused_multiply_add", Fault::FusedMultiplyAdd),
+    ("zero_start", Fault::ZeroStart),
+    ("one_reciprocal", Fault::OneReciprocal),
+    ("far_end", Fault::FarEnd),
+    ("row_vector_start", Fault::RowVectorStart),
+];
+
+thread_local! {
+    static PLANTED: Cell<Option<Fault>> = const { Cell::new(None) };
+}
+
+/// Whether this fault is planted now.
+pub fn planted(fault: Fault) -> bool {
+    PLANTED.get() == Some(fault)
+}
+
+/// What `work` gives while the fault is planted.
+pub fn with<T>(fault: Fault, work: impl FnOnce() -> T) -> T {
+    PLANTED.set(Some(fault));
+    let result = work();
+    PLANTED.set(None);
+    result
+}
