@@ -1,21 +1,12 @@
 // The functions that C and Rust programs link, as a static library.
-ghost use mathlib.Core.Path.{_≡_};
-ghost use lib.Ieee.{binary32};
-ghost use Rattle.data_type.specs.Root.{sqrtOf};
-ghost use Rattle.data_type.specs.Reciprocal.{recipOf};
-
-// The root of x, the nearest f32.
-#[no_mangle]
-pub extern "C" fn yurgamysh_square_root(x: f32) -> f32
-    ensures { λ r. ⌜ r ≡ sqrtOf binary32 x ⌝ }
-{
-    data_type::square_root(x)
-}
-
-// 1/v, rounded once.
-#[no_mangle]
-pub extern "C" fn yurgamysh_recip(v: f32) -> f32
-    ensures { λ r. ⌜ r ≡ recipOf binary32 v ⌝ }
-{
-    data_type::recip(v)
-}
+//
+// A slice arrives as a pointer and a length. Each function hands on to a public function of the crates
+// below, says its answer as a code, and keeps that function's promise.
+pub mod cells;
+mod code;
+pub mod factor;
+pub mod filter;
+pub mod numbers;
+pub mod one;
+pub mod product;
+pub mod sum;

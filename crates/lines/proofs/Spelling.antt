@@ -1,5 +1,5 @@
 -- The cases of `wordAt`, by what the tests of `word_at` found. Assumes nothing.
-use mathlib.Core.Path.{_≡_}
+use mathlib.Core.Path.{_≡_, sym}
 use mathlib.Core.List.{List}
 use Prim.Native.Nat.{ℕ, _+_, _≤_, _<_}
 use native.Mathlib.Nat.{lt-of-not-le}
@@ -25,3 +25,7 @@ module _ (s : List ℕ) (at : ℕ) where
 
     pub digits : (n p : ℕ) → hex8At s (at + 1) ≡ Number n p → record { bits = n; next = p } ≡ wordAt s at
     digits n p h = rw (eq-eqb (getD s at 0) 32 space, h)
+
+-- Behind a word that is none there is no other, however long the list: no list of a machine reaches that position.
+pub lost-stays : (s : List ℕ) → length s ≤ lost .next → wordAt s (lost .next) ≡ lost
+lost-stays s h = sym (no-space s (lost .next) (λ (e : getD s (lost .next) 0 ≡ 32). let g = held s (lost .next) e in omega arith))

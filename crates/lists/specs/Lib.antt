@@ -1,2 +1,4 @@
 -- The definitions that the contracts cite.
+pub mod Call
 pub mod Lent
+pub mod Seen

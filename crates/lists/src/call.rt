@@ -1,5 +1,7 @@
 // What a line says of its call: the numbers before the buffers, and the buffers.
-ghost use Rattle.lists.specs.Lent.{Holds};
+ghost use mathlib.Core.Path.{_≡_};
+ghost use Rattle.lists.specs.Call.{wholeAt, realAt, headAt};
+ghost use Rattle.lists.specs.Lent.{Lends, noneAt, numbersAt, lentAt};
 
 // What a function takes and hands back: how many sizes, whether a row and a column, how many floats,
 // how many buffers, and whether a value comes back.
@@ -31,7 +33,9 @@ pub struct Whole {
 }
 
 // The size, row or column at a position, where one is wanted: ffffffff stands for the largest usize.
-fn whole_at(s: &[u8], at: usize, wanted: bool) -> Whole {
+fn whole_at(s: &[u8], at: usize, wanted: bool) -> Whole
+    ensures { λ r. ⌜ r ≡ wholeAt (now (s .entry)) at wanted ⌝ }
+{
     if !wanted {
         return Whole { n: 0, next: at };
     }
@@ -55,7 +59,9 @@ pub struct Real {
 }
 
 // The float at a position, where one is wanted.
-fn real_at(s: &[u8], at: usize, wanted: bool) -> Real {
+fn real_at(s: &[u8], at: usize, wanted: bool) -> Real
+    ensures { λ r. ⌜ r ≡ realAt (now (s .entry)) at wanted ⌝ }
+{
     if !wanted {
         return Real { x: 0.0, next: at };
     }
@@ -67,7 +73,9 @@ fn real_at(s: &[u8], at: usize, wanted: bool) -> Real {
 }
 
 // What stands before the buffers.
-pub fn head_at(s: &[u8], at: usize, h: Shape) -> Head {
+pub fn head_at(s: &[u8], at: usize, h: Shape) -> Head
+    ensures { λ r. ⌜ r ≡ headAt (now (s .entry)) at h ⌝ }
+{
     let first = whole_at(s, at, 0 < h.sizes);
     let second = whole_at(s, first.next, 1 < h.sizes);
     let third = whole_at(s, second.next, 2 < h.sizes);
@@ -96,7 +104,7 @@ pub struct Lent {
 
 // No buffer, at a position.
 fn none(at: usize) -> Lent
-    ensures { λ r. ⌜ Holds (r .len) (r .cells) ⌝ }
+    ensures { λ r. ⌜ Lends r (noneAt at) ⌝ }
 {
     Lent {
         cells: [0.0; 304],
@@ -108,7 +116,7 @@ fn none(at: usize) -> Lent
 // The buffer of len numbers whose words begin at a position. A length above 304 is none that a list
 // has: the line is lost.
 fn numbers(s: &[u8], at: usize, len: usize) -> Lent
-    ensures { λ r. ⌜ Holds (r .len) (r .cells) ⌝ }
+    ensures { λ r. ⌜ Lends r (numbersAt (now (s .entry)) at len) ⌝ }
 {
     if 304 < len {
         return none(lines::LOST);
@@ -131,7 +139,7 @@ fn numbers(s: &[u8], at: usize, len: usize) -> Lent
 
 // The buffer at a position, where one is wanted: its length, and its numbers.
 pub fn lend(s: &[u8], at: usize, wanted: bool) -> Lent
-    ensures { λ r. ⌜ Holds (r .len) (r .cells) ⌝ }
+    ensures { λ r. ⌜ Lends r (lentAt (now (s .entry)) at wanted) ⌝ }
 {
     if !wanted {
         return none(at);

@@ -1,5 +1,7 @@
 // What the comparison of a line has found so far.
+ghost use mathlib.Core.Path.{_≡_};
 ghost use Prim.Native.Nat.{_≤_};
+ghost use Rattle.lists.specs.Seen.{nothingAt, oneMore, metOf, floatMet, wholeMet, lowOf, answerMet, valueMet, cellsMet, bufferMet};
 use answers::Answer;
 
 // The position of the next word, how many numbers were compared, how many of them differ, and of the
@@ -20,7 +22,9 @@ pub const ANSWER: usize = 100;
 pub const VALUE: usize = 101;
 
 // Nothing compared, the next word at a position.
-pub fn nothing(at: usize) -> Seen {
+pub fn nothing(at: usize) -> Seen
+    ensures { λ r. ⌜ r ≡ nothingAt at ⌝ }
+{
     Seen {
         next: at,
         numbers: 0,
@@ -33,20 +37,16 @@ pub fn nothing(at: usize) -> Seen {
 }
 
 // One more, up to the largest number.
-pub fn one_more(n: u64) -> u64 {
+pub fn one_more(n: u64) -> u64
+    ensures { λ r. ⌜ r ≡ oneMore n ⌝ }
+{
     if n < 0xffff_ffff_ffff_ffff { n + 1 } else { n }
 }
 
 // One number more: the list has `want`, `found` was found, and they are the same or not.
-fn met(
-    o: Seen,
-    next: usize,
-    buffer: usize,
-    index: usize,
-    want: u32,
-    found: u32,
-    same: bool,
-) -> Seen {
+fn met(o: Seen, next: usize, buffer: usize, index: usize, want: u32, found: u32, same: bool) -> Seen
+    ensures { λ r. ⌜ r ≡ metOf same o next buffer index want found ⌝ }
+{
     let mut more = o;
     more.next = next;
     more.numbers = one_more(o.numbers);
@@ -64,7 +64,9 @@ fn met(
 }
 
 // The float x against the next word: any NaN is the same as any other.
-pub fn float_met(s: &[u8], o: Seen, buffer: usize, index: usize, x: f32) -> Seen {
+pub fn float_met(s: &[u8], o: Seen, buffer: usize, index: usize, x: f32) -> Seen
+    ensures { λ r. ⌜ r ≡ floatMet (now (s .entry)) o buffer index x ⌝ }
+{
     let w = lines::word_at(s, o.next);
     let found = lines::bits_of(x);
     met(
@@ -79,7 +81,9 @@ pub fn float_met(s: &[u8], o: Seen, buffer: usize, index: usize, x: f32) -> Seen
 }
 
 // The number n, at most 32 bits, against the next word.
-fn whole_met(s: &[u8], o: Seen, buffer: usize, index: usize, n: usize) -> Seen {
+fn whole_met(s: &[u8], o: Seen, buffer: usize, index: usize, n: usize) -> Seen
+    ensures { λ r. ⌜ r ≡ wholeMet (now (s .entry)) o buffer index n ⌝ }
+{
     let w = lines::word_at(s, o.next);
     let found = low(n);
     met(
@@ -94,7 +98,9 @@ fn whole_met(s: &[u8], o: Seen, buffer: usize, index: usize, n: usize) -> Seen {
 }
 
 // n where it has 32 bits, else the largest number that has.
-fn low(n: usize) -> u32 {
+fn low(n: usize) -> u32
+    ensures { λ r. ⌜ r ≡ lowOf n ⌝ }
+{
     if n < 0x1_0000_0000 {
         n as u32
     } else {
@@ -103,13 +109,17 @@ fn low(n: usize) -> u32 {
 }
 
 // The answer against the next two words: its number, and what it carries.
-pub fn answer_met(s: &[u8], at: usize, v: Answer) -> Seen {
+pub fn answer_met(s: &[u8], at: usize, v: Answer) -> Seen
+    ensures { λ r. ⌜ r ≡ answerMet (now (s .entry)) at v ⌝ }
+{
     let o = whole_met(s, nothing(at), ANSWER, 0, answers::number_of(v));
     whole_met(s, o, ANSWER, 1, answers::carried_by(v))
 }
 
 // The value that came back against the next word, where one is wanted.
-pub fn value_met(s: &[u8], o: Seen, x: f32, wanted: bool) -> Seen {
+pub fn value_met(s: &[u8], o: Seen, x: f32, wanted: bool) -> Seen
+    ensures { λ r. ⌜ r ≡ valueMet (now (s .entry)) o x wanted ⌝ }
+{
     if !wanted {
         return o;
     }
@@ -125,7 +135,9 @@ pub fn buffer_met(
     cells: &[f32; 304],
     len: usize,
     wanted: bool,
-) -> Seen {
+) -> Seen
+    ensures { λ r. ⌜ r ≡ bufferMet (now (s .entry)) o buffer (now (cells .entry)) len wanted ⌝ }
+{
     if !wanted {
         return o;
     }
@@ -142,6 +154,7 @@ pub fn buffer_met(
 // The first len cells against the next words, at most 304.
 fn cells_met(s: &[u8], o: Seen, buffer: usize, cells: &[f32; 304], len: usize) -> Seen
     requires { ⌜ len ≤ 304 ⌝ }
+    ensures { λ r. ⌜ r ≡ cellsMet (now (s .entry)) o buffer (now (cells .entry)) len ⌝ }
 {
     let mut more = o;
     let mut i: usize = 0;

@@ -1,0 +1,31 @@
+#![doc = include_str!("../README.md")]
+#![no_std]
+#![deny(missing_docs)]
+
+mod cells;
+mod correction;
+mod factors;
+mod filter;
+mod numbers;
+mod one_state;
+mod prediction;
+mod products;
+mod refusal;
+mod sums;
+mod sys;
+
+pub use cells::*;
+pub use correction::{correct, innovation, update};
+pub use factors::{cholesky_decompose_lower, invert_l_cholesky};
+pub use filter::{Filter, Observation};
+pub use numbers::{recip, square_root};
+pub use one_state::{one_state_correct, one_state_predict, OneState};
+pub use prediction::{predict, predict_p, predict_x};
+pub use products::*;
+pub use refusal::Refusal;
+pub use sums::*;
+
+use refusal::answer;
+
+/// The largest size: states, observations, rows, columns.
+pub const MAX_SIZE: usize = 16;

@@ -1,0 +1,43 @@
+//! What a refused call says.
+
+use core::fmt;
+
+/// Why a call was refused. Sizes and buffers count from 0, in the order of the parameters.
+#[derive(Clone, Copy, Debug, PartialEq, Eq, Hash)]
+pub enum Refusal {
+    /// This size, the first such, is 0 or above 16. Everything is as lent.
+    Size(usize),
+    /// This buffer, the first such, is shorter than its matrix. Everything is as lent.
+    Short(usize),
+    /// The row (0) or the column (1) is not below its size. Everything is as lent.
+    Range(usize),
+    /// This pivot, the first such, is not above zero, or is NaN. x and P are as lent.
+    Pivot(usize),
+}
+
+impl fmt::Display for Refusal {
+    fn fmt(&self, f: &mut fmt::Formatter<'_>) -> fmt::Result {
+        match self {
+            Refusal::Size(k) => write!(f, "size {k} is 0 or above {}", crate::MAX_SIZE),
+            Refusal::Short(k) => write!(f, "buffer {k} is shorter than its matrix"),
+            Refusal::Range(0) => write!(f, "the row is out of range"),
+            Refusal::Range(_) => write!(f, "the column is out of range"),
+            Refusal::Pivot(i) => write!(f, "pivot {i} is not above zero"),
+        }
+    }
+}
+
+impl core::error::Error for Refusal {}
+
+/// The library's code: 0 for done, else 100 times the refusal's number plus what it carries.
+pub(crate) fn answer(code: usize) -> Result<(), Refusal> {
+    let carried = code % 100;
+    match code / 100 {
+        0 => Ok(()),
+        1 => Err(Refusal::Size(carried)),
+        2 => Err(Refusal::Short(carried)),
+        3 => Err(Refusal::Range(carried)),
+        4 => Err(Refusal::Pivot(carried)),
+        _ => unreachable!("the library answers no {code}"),
+    }
+}

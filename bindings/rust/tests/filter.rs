@@ -1,0 +1,181 @@
+//! The filter and the observation that own their buffers, and the one-state record.
+
+use yurgamysh::{Filter, Observation, OneState, Refusal};
+
+/// Two states and three readings, none symmetric to another.
+fn filter() -> Filter<2> {
+    Filter::new()
+        .with_state_vector([3.0, 2.0])
+        .with_state_transition([[1.0, 1.0], [0.0, 1.0]])
+        .with_estimate_covariance([[2.0, 1.0], [1.0, 3.0]])
+        .with_direct_process_noise([[1.0, 0.0], [0.0, 1.0]])
+}
+
+fn observation() -> Observation<2, 3> {
+    Observation::new()
+        .with_observation_matrix([[1.0, 0.5], [0.25, 2.0], [1.5, -1.0]])
+        .with_measurement_noise_covariance([[4.0, 0.5, 0.25], [0.5, 5.0, 0.75], [0.25, 0.75, 6.0]])
+        .with_measurement_vector([7.0, -3.0, 11.0])
+}
+
+/// The numbers of a filter, as bits.
+fn bits(f: &Filter<2>) -> Vec<u32> {
+    f.state_vector().iter().chain(f.estimate_covariance().as_flattened()).map(|x| x.to_bits()).collect()
+}
+
+#[test]
+fn what_is_set_is_there() {
+    let mut f = filter();
+    assert_eq!(f.direct_process_noise(), &[[1.0, 0.0], [0.0, 1.0]]);
+    assert_eq!(f.state_transition(), &[[1.0, 1.0], [0.0, 1.0]]);
+    f.state_transition_mut()[1][0] = 9.0;
+    f.direct_process_noise_mut()[0][1] = 8.0;
+    f.state_vector_mut()[1] = 7.0;
+    f.estimate_covariance_mut()[1][0] = 6.0;
+    assert_eq!(f.state_transition(), &[[1.0, 1.0], [9.0, 1.0]]);
+    assert_eq!(f.direct_process_noise(), &[[1.0, 8.0], [0.0, 1.0]]);
+    assert_eq!(f.state_vector(), &[3.0, 7.0]);
+    assert_eq!(f.estimate_covariance(), &[[2.0, 1.0], [6.0, 3.0]]);
+    let mut o = observation();
+    o.observation_matrix_mut()[2][0] = 9.0;
+    o.measurement_noise_covariance_mut()[2][0] = 8.0;
+    o.measurement_vector_mut()[1] = 7.0;
+    assert_eq!(o.observation_matrix(), &[[1.0, 0.5], [0.25, 2.0], [9.0, -1.0]]);
+    assert_eq!(o.measurement_noise_covariance(), &[[4.0, 0.5, 0.25], [0.5, 5.0, 0.75], [8.0, 0.75, 6.0]]);
+    assert_eq!(o.measurement_vector(), &[7.0, 7.0, 11.0]);
+}
+
+#[test]
+fn a_prediction() {
+    let mut f = filter();
+    f.predict();
+    assert_eq!(f.state_vector(), &[5.0, 2.0]);
+    assert_eq!(f.estimate_covariance(), &[[8.0, 4.0], [4.0, 4.0]]);
+}
+
+/// The filter's correction is that of the function over slices, bit for bit.
+#[test]
+fn a_correction() {
+    let (mut f, mut o) = (filter(), observation());
+    assert_eq!(f.correct(&mut o), Ok(()));
+    let before = filter();
+    let (mut x, mut p) = (*before.state_vector(), *before.estimate_covariance());
+    let (mut y, mut k, mut s, mut s_inv) = ([0.0; 3], [[0.0; 3]; 2], [0.0; 9], [0.0; 9]);
+    yurgamysh::correct(
+        2,
+        3,
+        &mut x,
+        p.as_flattened_mut(),
+        o.observation_matrix().as_flattened(),
+        o.measurement_vector(),
+        o.measurement_noise_covariance().as_flattened(),
+        &mut y,
+        &mut s,
+        k.as_flattened_mut(),
+        &mut s_inv,
+        &mut [0.0; 6],
+        &mut [0.0; 6],
+        &mut [0.0; 4],
+    )
+    .unwrap();
+    assert_eq!((f.state_vector(), f.estimate_covariance()), (&x, &p));
+    assert_eq!((o.innovation_vector(), o.kalman_gain()), (&y, &k));
+    assert_eq!(y, [3.0, -7.75, 8.5]);
+    // The readings pull the estimate: x is none of what it was, and P is smaller.
+    assert!(x[0] != 3.0 && x[1] != 2.0 && p[0][0] < 2.0 && p[1][1] < 3.0);
+}
+
+#[test]
+fn a_refused_correction_leaves_x_and_p() {
+    let (mut f, mut o) = (filter(), observation());
+    o.measurement_noise_covariance_mut()[1][1] = -1e6;
+    let before = bits(&f);
+    assert_eq!(f.correct(&mut o), Err(Refusal::Pivot(1)));
+    assert_eq!(bits(&f), before);
+    assert_eq!(f.correct_with(&mut o, |_| ()), Err(Refusal::Pivot(1)));
+    assert_eq!(bits(&f), before);
+    // And the filter goes on once the reading's spread is right again.
+    *o.measurement_noise_covariance_mut() = *observation().measurement_noise_covariance();
+    assert_eq!(f.correct(&mut o), Ok(()));
+    assert_ne!(bits(&f), before);
+}
+
+#[test]
+fn an_innovation_that_is_put_right() {
+    let (mut plain, mut fixed) = (filter(), filter());
+    plain.correct(&mut observation()).unwrap();
+    fixed.correct_with(&mut observation(), |_| ()).unwrap();
+    assert_eq!(bits(&plain), bits(&fixed));
+    let mut o = observation();
+    let mut held = filter();
+    held.correct_with(&mut o, |y| {
+        assert_eq!(y, &[3.0, -7.75, 8.5]);
+        *y = [0.0; 3];
+    })
+    .unwrap();
+    assert_eq!(held.state_vector(), &[3.0, 2.0]);
+    assert_eq!(held.estimate_covariance(), plain.estimate_covariance());
+}
+
+#[test]
+fn the_largest_sizes() {
+    let mut f = Filter::<16>::default();
+    let mut o = Observation::<16, 16>::default();
+    for i in 0..16 {
+        f.state_vector_mut()[i] = i as f32;
+        f.state_transition_mut()[i][i] = 2.0;
+        f.estimate_covariance_mut()[i][i] = 3.0;
+        o.observation_matrix_mut()[i][i] = 1.0;
+        o.measurement_noise_covariance_mut()[i][i] = 4.0;
+        o.measurement_vector_mut()[i] = 2.0 * i as f32 + 4.0;
+    }
+    f.predict();
+    assert_eq!(f.estimate_covariance()[15][15], 12.0);
+    // S = 12 + 4, K = 0.75 on the diagonal: the innovation of 4 moves each state by 3.
+    f.correct(&mut o).unwrap();
+    for i in 0..16 {
+        assert_eq!(f.state_vector()[i], 2.0 * i as f32 + 3.0);
+        assert_eq!(f.estimate_covariance()[i][i], 3.0);
+    }
+}
+
+/// The one-state record has the bits of the filter at one state and one reading.
+#[test]
+fn one_yarn_both_ways() {
+    let mut yarn = OneState { x: 1.1, p: 3.3, a: 0.9, q: 0.01, h: 1.3, r: 0.7 };
+    let mut f = Filter::<1>::new()
+        .with_state_vector([yarn.x])
+        .with_state_transition([[yarn.a]])
+        .with_estimate_covariance([[yarn.p]])
+        .with_direct_process_noise([[yarn.q]]);
+    let mut o = Observation::<1, 1>::new()
+        .with_observation_matrix([[yarn.h]])
+        .with_measurement_noise_covariance([[yarn.r]]);
+    for step in 0..100 {
+        let z = 2.0 + 0.1 * (step % 7) as f32;
+        let settings = (yarn.a, yarn.q, yarn.h, yarn.r);
+        yarn = yarn.predict();
+        assert_eq!((yarn.a, yarn.q, yarn.h, yarn.r), settings);
+        yarn = yarn.correct(z).unwrap();
+        assert_eq!((yarn.a, yarn.q, yarn.h, yarn.r), settings);
+        f.predict();
+        o.measurement_vector_mut()[0] = z;
+        f.correct(&mut o).unwrap();
+        assert_eq!(yarn.x.to_bits(), f.state_vector()[0].to_bits());
+        assert_eq!(yarn.p.to_bits(), f.estimate_covariance()[0][0].to_bits());
+    }
+}
+
+#[test]
+fn refusals_in_words() {
+    let words = [
+        (Refusal::Size(1), "size 1 is 0 or above 16"),
+        (Refusal::Short(3), "buffer 3 is shorter than its matrix"),
+        (Refusal::Range(0), "the row is out of range"),
+        (Refusal::Range(1), "the column is out of range"),
+        (Refusal::Pivot(2), "pivot 2 is not above zero"),
+    ];
+    for (refusal, text) in words {
+        assert_eq!(refusal.to_string(), text);
+    }
+}

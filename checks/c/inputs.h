@@ -1,0 +1,25 @@
+/* What the buffers hold on entry. */
+#ifndef INPUTS_H
+#define INPUTS_H
+
+#include "calls.h"
+
+#include <stdint.h>
+
+enum kind {
+    WHOLE,     /* whole numbers from -8 to 8 */
+    FRACTIONS, /* numbers from -2 to 2 */
+    ANY_BITS,  /* any pattern, NaN, infinities and subnormals among them */
+    SPECIALS,  /* zeros of both signs, infinities, NaN, the smallest and the largest */
+    POSITIVE,  /* square matrices symmetric with a heavy diagonal, so that pivots are above zero */
+    LATE, /* the same, but the square of the last size (R, not P) has a cell far below zero on its
+             diagonal, so that a later pivot is refused */
+    KINDS
+};
+
+uint32_t draw(void);
+float draw_number(enum kind kind);
+/* Fills the cells of buffer k. */
+void fill_cells(const struct function *f, const struct call *c, size_t k, enum kind kind);
+
+#endif

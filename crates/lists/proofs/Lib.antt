@@ -1,0 +1,5 @@
+-- Laws that belong to no one function.
+mod Reading
+mod Filling
+mod Comparing
+pub mod Agreed

@@ -1,0 +1,314 @@
+/* Yurgamysh: a proved Kalman filter over buffers that the caller lends.
+
+   Matrices are row-major: entry (r, c) of a matrix with cols columns is at r*cols + c. A size (n
+   states, m observations, rows, inner, cols) is 1 to YURGAMYSH_MAX_SIZE. Each buffer comes as a
+   pointer and the count of floats behind it; it may be longer than its matrix, and what lies past
+   the matrix is never changed.
+
+   What the caller owes:
+   - each pointer has as many floats behind it as the length beside it says, aligned as a float is
+     (a length of 0 asks for nothing: the pointer may be NULL);
+   - a buffer that the call writes (its pointer is not const) shares no memory with another of the
+     same call; buffers that are only read may share;
+   - `value` of yurgamysh_get points to one float, always;
+   - the processor rounds to nearest and keeps subnormals, as it does when a program starts. (A program
+     that gcc links with -ffast-math starts with subnormals turned off, and gets other bits.)
+
+   What the caller need not care about: any sizes, any lengths, any rows and columns, and any floats,
+   infinities and NaN among them. Such a call answers or refuses. No call allocates, fails to return,
+   or keeps a pointer; two threads may call at the same time, each with its own written buffers.
+
+   The answer is one number: 0 where the call did its work, else 100 times the refusal's number plus
+   what it carries. yurgamysh_answer_of and yurgamysh_carried_by take it apart.
+
+     code      refusal           given exactly when                                   leaves
+     0         YURGAMYSH_DONE    none of the others is                                the results
+     100 + k   YURGAMYSH_SIZE    size k is 0 or above 16, the first such              all as lent
+     200 + k   YURGAMYSH_SHORT   buffer k is shorter than its matrix, the first such  all as lent
+     300 + k   YURGAMYSH_RANGE   the row (k = 0) or the column (k = 1) is not below   all as lent
+                                 its size, the row first
+     400 + i   YURGAMYSH_PIVOT   pivot i is not above zero, NaN included, the first   see the function
+
+   They are tested in this order. Sizes and buffers count from 0 in the order of the parameters. Which
+   NaN a NaN is (its sign and payload) is not decided. */
+#ifndef YURGAMYSH_H
+#define YURGAMYSH_H
+
+#include <stddef.h>
+
+#ifdef __cplusplus
+extern "C" {
+#endif
+
+enum {
+    /* The largest size, the most cells of a matrix, and the floats of a one-state record. */
+    YURGAMYSH_MAX_SIZE = 16,
+    YURGAMYSH_MAX_CELLS = 256,
+    YURGAMYSH_RECORD = 6
+};
+
+/* What a call says. */
+enum yurgamysh_answer {
+    YURGAMYSH_DONE = 0,
+    YURGAMYSH_SIZE = 1,
+    YURGAMYSH_SHORT = 2,
+    YURGAMYSH_RANGE = 3,
+    YURGAMYSH_PIVOT = 4
+};
+
+/* Which answer a code is. */
+static inline enum yurgamysh_answer yurgamysh_answer_of(size_t code) {
+    switch (code / 100) {
+    case 0: return YURGAMYSH_DONE;
+    case 1: return YURGAMYSH_SIZE;
+    case 2: return YURGAMYSH_SHORT;
+    case 3: return YURGAMYSH_RANGE;
+    default: return YURGAMYSH_PIVOT;
+    }
+}
+
+/* Which size, which buffer, the row (0) or the column (1), or which pivot it is; 0 for done. */
+static inline size_t yurgamysh_carried_by(size_t code) { return code % 100; }
+
+/* ---- The filter: n states, m observations.
+
+   x n             the estimate                z m             the readings
+   A n by n        the model                   R m by m        the spread of the readings
+   P n by n        the spread of the estimate  y m             the innovation, z - H*x
+   Q n by n        the spread that a step adds S m by m        the spread of y, then its lower factor
+   H m by n        how readings see states     K n by m        the gain
+   predicted_x n, temp_P n by n, temp_S_inv m by m, temp_HP m by n, temp_PHt n by m, temp_KHP n by n:
+   room to work in; whatever they hold on entry does not matter. */
+
+/* x = A*x, P = A*P*A^T + Q. predicted_x ends as the new x, temp_P as A*P.
+   Size 0: n. Buffers: 0 x, 1 A, 2 P, 3 Q, 4 predicted_x, 5 temp_P. */
+size_t yurgamysh_predict(size_t n,
+                         float *x, size_t x_len,
+                         const float *a, size_t a_len,
+                         float *p, size_t p_len,
+                         const float *q, size_t q_len,
+                         float *predicted_x, size_t predicted_x_len,
+                         float *temp_p, size_t temp_p_len);
+
+/* The first half: x = A*x. Size 0: n. Buffers: 0 x, 1 A, 2 predicted_x. */
+size_t yurgamysh_predict_x(size_t n,
+                           float *x, size_t x_len,
+                           const float *a, size_t a_len,
+                           float *predicted_x, size_t predicted_x_len);
+
+/* The second half: P = A*P*A^T + Q. Size 0: n. Buffers: 0 A, 1 P, 2 Q, 3 temp_P. */
+size_t yurgamysh_predict_p(size_t n,
+                           const float *a, size_t a_len,
+                           float *p, size_t p_len,
+                           const float *q, size_t q_len,
+                           float *temp_p, size_t temp_p_len);
+
+/* y = z - H*x. Sizes: 0 n, 1 m. Buffers: 0 x, 1 H, 2 z, 3 y. */
+size_t yurgamysh_innovation(size_t n, size_t m,
+                            const float *x, size_t x_len,
+                            const float *h, size_t h_len,
+                            const float *z, size_t z_len,
+                            float *y, size_t y_len);
+
+/* x = x + K*y and P = P - K*H*P, with the gain K = P*H^T*S^-1 of S = H*P*H^T + R.
+   S ends as the lower factor of that sum. Refusal YURGAMYSH_PIVOT leaves x, P, K, temp_S_inv,
+   temp_PHt and temp_KHP as lent, temp_HP as H*P, and S as yurgamysh_cholesky_decompose_lower leaves
+   it. Sizes: 0 n, 1 m. Buffers: 0 x, 1 P, 2 H, 3 R, 4 y, 5 S, 6 K, 7 temp_S_inv, 8 temp_HP,
+   9 temp_PHt, 10 temp_KHP. */
+size_t yurgamysh_update(size_t n, size_t m,
+                        float *x, size_t x_len,
+                        float *p, size_t p_len,
+                        const float *h, size_t h_len,
+                        const float *r, size_t r_len,
+                        const float *y, size_t y_len,
+                        float *s, size_t s_len,
+                        float *k, size_t k_len,
+                        float *temp_s_inv, size_t temp_s_inv_len,
+                        float *temp_hp, size_t temp_hp_len,
+                        float *temp_pht, size_t temp_pht_len,
+                        float *temp_khp, size_t temp_khp_len);
+
+/* The innovation of z, and then the update. Refusal YURGAMYSH_PIVOT leaves y as z - H*x and the rest
+   as the update does: x and P are as lent. Sizes: 0 n, 1 m. Buffers: 0 x, 1 P, 2 H, 3 z, 4 R, 5 y,
+   6 S, 7 K, 8 temp_S_inv, 9 temp_HP, 10 temp_PHt, 11 temp_KHP. */
+size_t yurgamysh_correct(size_t n, size_t m,
+                         float *x, size_t x_len,
+                         float *p, size_t p_len,
+                         const float *h, size_t h_len,
+                         const float *z, size_t z_len,
+                         const float *r, size_t r_len,
+                         float *y, size_t y_len,
+                         float *s, size_t s_len,
+                         float *k, size_t k_len,
+                         float *temp_s_inv, size_t temp_s_inv_len,
+                         float *temp_hp, size_t temp_hp_len,
+                         float *temp_pht, size_t temp_pht_len,
+                         float *temp_khp, size_t temp_khp_len);
+
+/* ---- One yarn, by a record of six floats: x, p, a, q, h, r. The bits are those of the filter at
+   n = m = 1, with no room to work in. */
+
+/* x = a*x, p = a*p*a + q. Buffer 0: the record. */
+size_t yurgamysh_one_state_predict(float *record, size_t record_len);
+
+/* x and p as the reading z moves them. Refusal YURGAMYSH_PIVOT (400) leaves the record as lent.
+   Buffer 0: the record. */
+size_t yurgamysh_one_state_correct(float *record, size_t record_len, float z);
+
+/* ---- Decomposition and inverse */
+
+/* The lower Cholesky factor of the symmetric n by n matrix t, in t; the strict upper triangle ends
+   as +0. Only the upper triangle and the diagonal are read. Refusal YURGAMYSH_PIVOT at i leaves the
+   columns before i of the lower triangle done, (i, i) as the refused pivot times the reciprocal of
+   the root before it (+0 for i = 0), and every other cell as lent. Size 0: n. Buffer 0: t. */
+size_t yurgamysh_cholesky_decompose_lower(size_t n, float *t, size_t t_len);
+
+/* The inverse of L*L^T from its lower factor L; the strict upper triangle of l is not read.
+   Size 0: n. Buffers: 0 l, 1 inv. */
+size_t yurgamysh_invert_l_cholesky(size_t n,
+                                   const float *l, size_t l_len,
+                                   float *inv, size_t inv_len);
+
+/* ---- Cells of a rows by cols (or n by n) matrix m. Sizes: 0 rows, 1 cols (or 0 n). Buffer 0: m. */
+
+/* The number in (row, column), in *value, which is written only where the answer is 0. */
+size_t yurgamysh_get(size_t rows, size_t cols,
+                     const float *m, size_t m_len,
+                     size_t row, size_t column, float *value);
+
+/* value in (row, column). */
+size_t yurgamysh_set(size_t rows, size_t cols,
+                     float *m, size_t m_len,
+                     size_t row, size_t column, float value);
+
+/* value in (row, column) and in (column, row). */
+size_t yurgamysh_set_symmetric(size_t n,
+                               float *m, size_t m_len,
+                               size_t row, size_t column, float value);
+
+/* A row, in the first cols floats of row_data (buffer 1). */
+size_t yurgamysh_get_row_copy(size_t rows, size_t cols,
+                              const float *m, size_t m_len,
+                              size_t row,
+                              float *row_data, size_t row_data_len);
+
+/* A column, in the first rows floats of column_data (buffer 1). A column that is out of range
+   carries 1, as everywhere. */
+size_t yurgamysh_get_column_copy(size_t rows, size_t cols,
+                                 const float *m, size_t m_len,
+                                 size_t column,
+                                 float *column_data, size_t column_data_len);
+
+/* The whole matrix, in the first rows*cols floats of target (buffer 1). */
+size_t yurgamysh_copy_to(size_t rows, size_t cols,
+                         const float *m, size_t m_len,
+                         float *target, size_t target_len);
+
+/* x in every cell. */
+size_t yurgamysh_set_all(size_t rows, size_t cols, float *m, size_t m_len, float x);
+
+/* +0 in every cell. */
+size_t yurgamysh_set_zero(size_t rows, size_t cols, float *m, size_t m_len);
+
+/* value on the diagonal; the other cells stay. */
+size_t yurgamysh_set_diagonal_to_scalar(size_t n, float *m, size_t m_len, float value);
+
+/* diagonal on the diagonal, +0 elsewhere. */
+size_t yurgamysh_make_scalar(size_t n, float *m, size_t m_len, float diagonal);
+
+/* 1 on the diagonal, +0 elsewhere. */
+size_t yurgamysh_make_identity(size_t n, float *m, size_t m_len);
+
+/* diagonal on the diagonal, off_diagonal elsewhere. */
+size_t yurgamysh_make_comatrix(size_t n, float *m, size_t m_len,
+                               float diagonal, float off_diagonal);
+
+/* ---- Products: a of rows by inner. Sizes: 0 rows, 1 inner, 2 cols (row vectors have no cols).
+   Buffers: 0 a, 1 b or x, 2 c. Totals are summed from the left, each step rounded once, nothing
+   fused. */
+
+/* c = a*b, b of inner by cols and c of rows by cols. */
+size_t yurgamysh_mult(size_t rows, size_t inner, size_t cols,
+                      const float *a, size_t a_len,
+                      const float *b, size_t b_len,
+                      float *c, size_t c_len);
+
+/* c = a*b; baux, of inner floats (buffer 3), ends with column 0 of b. */
+size_t yurgamysh_mult_buffered(size_t rows, size_t inner, size_t cols,
+                               const float *a, size_t a_len,
+                               const float *b, size_t b_len,
+                               float *c, size_t c_len,
+                               float *baux, size_t baux_len);
+
+/* c = a*b^T, b of cols by inner. */
+size_t yurgamysh_mult_transb(size_t rows, size_t inner, size_t cols,
+                             const float *a, size_t a_len,
+                             const float *b, size_t b_len,
+                             float *c, size_t c_len);
+
+/* c = c + a*b^T, b of cols by inner. */
+size_t yurgamysh_multadd_transb(size_t rows, size_t inner, size_t cols,
+                                const float *a, size_t a_len,
+                                const float *b, size_t b_len,
+                                float *c, size_t c_len);
+
+/* c = (a*b^T)*scale, b of cols by inner. */
+size_t yurgamysh_multscale_transb(size_t rows, size_t inner, size_t cols,
+                                  const float *a, size_t a_len,
+                                  const float *b, size_t b_len,
+                                  float scale,
+                                  float *c, size_t c_len);
+
+/* c = a*x, x of inner floats and c of rows floats. */
+size_t yurgamysh_mult_rowvector(size_t rows, size_t inner,
+                                const float *a, size_t a_len,
+                                const float *x, size_t x_len,
+                                float *c, size_t c_len);
+
+/* c = c + a*x. */
+size_t yurgamysh_multadd_rowvector(size_t rows, size_t inner,
+                                   const float *a, size_t a_len,
+                                   const float *x, size_t x_len,
+                                   float *c, size_t c_len);
+
+/* ---- Sums and differences, all of rows by cols. Sizes: 0 rows, 1 cols. Buffers: 0 a, 1 b, 2 c. */
+
+/* c = a - b. */
+size_t yurgamysh_sub(size_t rows, size_t cols,
+                     const float *a, size_t a_len,
+                     const float *b, size_t b_len,
+                     float *c, size_t c_len);
+
+/* a = a - b. */
+size_t yurgamysh_sub_inplace_a(size_t rows, size_t cols,
+                               float *a, size_t a_len,
+                               const float *b, size_t b_len);
+
+/* b = a - b. */
+size_t yurgamysh_sub_inplace_b(size_t rows, size_t cols,
+                               const float *a, size_t a_len,
+                               float *b, size_t b_len);
+
+/* a = a + b. */
+size_t yurgamysh_add_inplace_a(size_t rows, size_t cols,
+                               float *a, size_t a_len,
+                               const float *b, size_t b_len);
+
+/* b = a + b. */
+size_t yurgamysh_add_inplace_b(size_t rows, size_t cols,
+                               const float *a, size_t a_len,
+                               float *b, size_t b_len);
+
+/* ---- Numbers */
+
+/* The root of x, the nearest float; NaN for NaN and for anything below zero, -0 for -0. */
+float yurgamysh_square_root(float x);
+
+/* 1/v, rounded once. */
+float yurgamysh_recip(float v);
+
+#ifdef __cplusplus
+}
+#endif
+
+#endif
