@@ -4,6 +4,7 @@ pub mod Unique
 pub mod Exists
 pub mod Nearest
 mod Loop
+mod Guess
 mod NearRoot
 mod Patterns
 mod Subnormal

@@ -1,4 +1,4 @@
--- The loop of `floor_root`, for a root of p binary digits: what holds before each turn, that a turn keeps it, and that the last one leaves the whole part of the root. Assumes nothing.
+-- The loop of `by_digits`, for a root of p binary digits: what holds before each turn, that a turn keeps it, and that the last one leaves the whole part of the root. Assumes nothing.
 use mathlib.Core.Path.{_≡_, refl, ap, subst}
 use Prim.Native.Nat.{ℕ, zero, suc, _+_, _*_, _/_, _^_, _≤_, _<_}
 use native.Mathlib.Nat.{le-of-lt, lt-of-lt-of-le, lt-of-le-of-lt, zero-add, mul-le-mul-left, pow-succ'}

@@ -7,7 +7,7 @@ ghost use Rattle.data_type.specs.Pattern.{rootBits};
 
 // The whole part of the root of n, which has 48 binary digits at most: a digit at a time, from the
 // highest of 24 down.
-fn floor_root(n: u64) -> u64
+fn by_digits(n: u64) -> u64
     requires { ⌜ n < 281474976710656 ⌝ }
     ensures { λ r. ⌜ (r * r ≤ n) × (n < (r + 1) * (r + 1)) ⌝ }
 {
@@ -21,6 +21,53 @@ fn floor_root(n: u64) -> u64
         b = b / 2;
     }
     r
+}
+
+// A step of Heron's rule from x towards the root of n.
+fn step(n: u64, x: u64) -> u64
+    requires { ⌜ (n < 281474976710656) × (1 ≤ x) × (x < 281474976710656) ⌝ }
+    ensures { λ r. ⌜ (x ≤ 2 * r + 1) × (r < 281474976710656) ⌝ }
+{
+    (x + n / x) / 2
+}
+
+// A line near the root of n, within 0.8 in a hundred for n from 2^46 on: one for each of two octaves.
+fn line(n: u64) -> u64
+    requires { ⌜ n < 281474976710656 ⌝ }
+    ensures { λ r. ⌜ (4950638 ≤ r) × (r < 281474976710656) ⌝ }
+{
+    let h = n / 8388608;
+    if n < 140737488355328 {
+        h * 27349 / 65536 + 4950638
+    } else {
+        h * 19338 / 65536 + 7001260
+    }
+}
+
+// A guess at the root of n: two steps from the line. They end at the root or above it, so that one is
+// taken off where the square is too large.
+fn guess(n: u64) -> u64
+    requires { ⌜ n < 281474976710656 ⌝ }
+    ensures { λ r. ⌜ r < 33554432 ⌝ }
+{
+    let once = step(n, line(n));
+    let up = step(n, once) % 33554432;
+    if n < up * up { up - 1 } else { up }
+}
+
+// The whole part of the root of n: the guess where it passes the test, else digit by digit. Only the
+// test is relied on.
+fn floor_root(n: u64) -> u64
+    requires { ⌜ n < 281474976710656 ⌝ }
+    ensures { λ r. ⌜ (r * r ≤ n) × (n < (r + 1) * (r + 1)) ⌝ }
+{
+    let r = guess(n);
+    if r * r <= n {
+        if n < (r + 1) * (r + 1) {
+            return r;
+        }
+    }
+    by_digits(n)
 }
 
 // The whole number next to the root of n. There is no tie: 4n is even and (2r + 1)² is odd.

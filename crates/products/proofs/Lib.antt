@@ -6,3 +6,4 @@ pub mod Turns
 pub mod Shapes
 pub mod Agree
 pub mod Unique
+mod Turned

@@ -2,7 +2,9 @@
 // and the order of its definition; four sums run side by side, so that none waits for another.
 mod mult;
 mod rowvector;
+mod sixteen;
 mod transb;
+mod turned;
 
 pub use mult::column_cells;
 pub use mult::mult_cells;

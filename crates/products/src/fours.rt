@@ -11,6 +11,14 @@ pub struct Four {
     pub t3: f32,
 }
 
+// Sixteen of them, in fours.
+pub struct Sixteen {
+    pub f0: Four,
+    pub f1: Four,
+    pub f2: Four,
+    pub f3: Four,
+}
+
 // x times the numbers of b at p and, each w further, at three more places.
 pub fn times(x: f32, b: &[f32], p: usize, w: usize) -> Four
     requires { ⌜ p + 3 * w < length (now b) ⌝ }
@@ -58,6 +66,22 @@ pub fn plus(s: Four, t: Four) -> Four
         t1: s.t1 + t.t1,
         t2: s.t2 + t.t2,
         t3: s.t3 + t.t3,
+    }
+}
+
+// The four, each with x times its number of b: these lie side by side from p on.
+pub fn more(t: Four, x: f32, b: &[f32], p: usize) -> Four
+    requires { ⌜ p + 3 < length (now b) ⌝ }
+    ensures { λ v. ⌜ (v .t0 ≡ add binary32 (t .t0) (mul binary32 x (getD (now (b .entry)) p nan)))
+        × (v .t1 ≡ add binary32 (t .t1) (mul binary32 x (getD (now (b .entry)) (p + 1) nan)))
+        × (v .t2 ≡ add binary32 (t .t2) (mul binary32 x (getD (now (b .entry)) (p + 2) nan)))
+        × (v .t3 ≡ add binary32 (t .t3) (mul binary32 x (getD (now (b .entry)) (p + 3) nan))) ⌝ }
+{
+    Four {
+        t0: t.t0 + x * b[p],
+        t1: t.t1 + x * b[p + 1],
+        t2: t.t2 + x * b[p + 2],
+        t3: t.t3 + x * b[p + 3],
     }
 }
 

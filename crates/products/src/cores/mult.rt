@@ -5,6 +5,7 @@ ghost use lib.ListN.{length};
 ghost use lib.Ieee.{binary32};
 ghost use Rattle.row_major.specs.Grid.{cell, run, grid};
 ghost use Rattle.products.specs.Entries.{product};
+use crate::cores::sixteen;
 use crate::fours;
 use crate::fours::Four;
 
@@ -63,8 +64,8 @@ fn mult_row(inner: usize, cols: usize, a: &[f32], b: &[f32], r: usize, c: &mut [
     }
 }
 
-// The matrix, into c.
-pub fn mult_cells(rows: usize, inner: usize, cols: usize, a: &[f32], b: &[f32], c: &mut [f32])
+// The matrix, into c, row after row.
+fn mult_rows(rows: usize, inner: usize, cols: usize, a: &[f32], b: &[f32], c: &mut [f32])
     requires { ⌜ (rows * inner ≤ length (now a)) × (inner * cols ≤ length (now b)) × (rows * cols ≤ length (now c)) ⌝ }
     ensures { λ _. ⌜ now (c .exit) ≡ grid rows cols (product binary32 inner cols (now (a .entry)) (now (b .entry))) (now (c .entry)) ⌝ }
 {
@@ -72,6 +73,18 @@ pub fn mult_cells(rows: usize, inner: usize, cols: usize, a: &[f32], b: &[f32], 
     while r < rows {
         mult_row(inner, cols, a, b, r, c);
         r += 1;
+    }
+}
+
+// The matrix, into c.
+pub fn mult_cells(rows: usize, inner: usize, cols: usize, a: &[f32], b: &[f32], c: &mut [f32])
+    requires { ⌜ (rows * inner ≤ length (now a)) × (inner * cols ≤ length (now b)) × (rows * cols ≤ length (now c)) ⌝ }
+    ensures { λ _. ⌜ now (c .exit) ≡ grid rows cols (product binary32 inner cols (now (a .entry)) (now (b .entry))) (now (c .entry)) ⌝ }
+{
+    if cols == 16 {
+        sixteen::sixteen_rows(rows, inner, cols, a, b, c);
+    } else {
+        mult_rows(rows, inner, cols, a, b, c);
     }
 }
 

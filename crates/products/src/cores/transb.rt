@@ -5,6 +5,7 @@ ghost use lib.ListN.{length};
 ghost use lib.Ieee.{binary32, add, mul};
 ghost use Rattle.row_major.specs.Grid.{cell, run, grid};
 ghost use Rattle.products.specs.Entries.{productT};
+use crate::cores::turned;
 use crate::fours;
 use crate::fours::Four;
 
@@ -65,8 +66,8 @@ fn transb_row(inner: usize, cols: usize, a: &[f32], b: &[f32], r: usize, c: &mut
     }
 }
 
-// The matrix, into c.
-pub fn transb_cells(rows: usize, inner: usize, cols: usize, a: &[f32], b: &[f32], c: &mut [f32])
+// The matrix, into c, row after row.
+fn transb_rows(rows: usize, inner: usize, cols: usize, a: &[f32], b: &[f32], c: &mut [f32])
     requires { ⌜ (rows * inner ≤ length (now a)) × (cols * inner ≤ length (now b)) × (rows * cols ≤ length (now c)) ⌝ }
     ensures { λ _. ⌜ now (c .exit) ≡ grid rows cols (productT binary32 inner (now (a .entry)) (now (b .entry))) (now (c .entry)) ⌝ }
 {
@@ -74,6 +75,18 @@ pub fn transb_cells(rows: usize, inner: usize, cols: usize, a: &[f32], b: &[f32]
     while r < rows {
         transb_row(inner, cols, a, b, r, c);
         r += 1;
+    }
+}
+
+// The matrix, into c. Turning b pays where each of its numbers is read often.
+pub fn transb_cells(rows: usize, inner: usize, cols: usize, a: &[f32], b: &[f32], c: &mut [f32])
+    requires { ⌜ (rows * inner ≤ length (now a)) × (cols * inner ≤ length (now b)) × (rows * cols ≤ length (now c)) ⌝ }
+    ensures { λ _. ⌜ now (c .exit) ≡ grid rows cols (productT binary32 inner (now (a .entry)) (now (b .entry))) (now (c .entry)) ⌝ }
+{
+    if 8 <= rows && 8 <= cols && cols * inner <= 256 {
+        turned::turned_cells(rows, inner, cols, a, b, c);
+    } else {
+        transb_rows(rows, inner, cols, a, b, c);
     }
 }
 

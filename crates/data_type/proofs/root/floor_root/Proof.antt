@@ -1,38 +1,54 @@
--- `root::floor_root` meets its contract. `Turn` of `proofs/Loop.antt` is the invariant; b, which is halved, is the measure. Assumes nothing.
-use native.Mathlib.Omega.{arith}
-use mathlib.Core.Logic.{⊎-elim}
-use lib.Dec.{lit≤}
-use Rattle.data_type.proofs.Loop.{Turn, first, sum-room, square-room, halved, up, stay, last}
+-- `root::floor_root` meets its contract: by the test, or by `by_digits`. Assumes nothing.
+use borrow.Author.Needs.{needs}
+use Rattle.data_type.proofs.Guess.{square-fits}
 use Rattle.data_type.proofs.root.floor_root.Statement.{statement}
 use Rattle.data_type.proofs.root.floor_root.Tie as tie
+use Rattle.data_type.proofs.root.floor_root.Reads as reads
+use Rattle.data_type.proofs.root.floor_root.Lts as lts
+use Rattle.data_type.proofs.root.by_digits.Reads as by-digits-reads
+use Rattle.data_type.proofs.root.guess.Reads as guess-reads
 
-abbrev Inv-loop : tie.InvT-loop
-Inv-loop n r₀ b₀ r b = Turn 24 n r b
+-- src/root.rt:56:9
+guess-requires : tie.Need-guess-requires
+guess-requires c κs = search needs
 
-abbrev μ-loop : tie.MeasureT-loop
-μ-loop n r₀ b₀ r b = b
+-- src/root.rt:57:8
+mul-if1 : tie.Need-mul-if1
+mul-if1 c = record { fits = square-fits (c .guess .ensures) }
 
-loop-holds : tie.Need-loop-holds Inv-loop μ-loop
-loop-holds c = first 24 _ (c .pre)
+-- src/root.rt:58:17
+add-if2 : tie.Need-add-if2
+add-if2 c = search needs
 
-add-t : tie.Need-add-t Inv-loop μ-loop
-add-t c = let h = sum-room 24 _ _ _ (c .before .loop .inv) (c .loop-test .taken) in omega arith
+-- src/root.rt:58:27
+add-if2-2 : tie.Need-add-if2-2
+add-if2-2 c = search needs
 
-mul-if1 : tie.Need-mul-if1 Inv-loop μ-loop
-mul-if1 c = record { fits = square-room 24 _ _ _ (c .before .loop .inv) (c .loop-test .taken) 64 (lit≤ tt) }
+-- src/root.rt:58:16
+mul-if2 : tie.Need-mul-if2
+mul-if2 c = search needs
 
-loop-less : tie.Need-loop-less Inv-loop μ-loop
-loop-less c = halved _ (c .before .loop-test .taken)
+-- src/root.rt:59:13
+returns : tie.Need-returns
+returns c = search needs
 
-loop-again : tie.Need-loop-again Inv-loop μ-loop
-loop-again c =
-    let t = c .before .before .loop .inv in
-    let h = c .before .loop-test .taken in
-    ⊎-elim (λ w. rw (w .1) (up 24 _ _ _ t h (w .0 .taken))) (λ w. rw (w .1) (stay 24 _ _ _ t h (w .0 .left))) (c .if1 .came)
+-- src/root.rt:62:5
+by-digits-requires : tie.Need-by-digits-requires
+by-digits-requires c κs = search needs
 
-returns : tie.Need-returns Inv-loop μ-loop
-returns c = last 24 _ _ _ (c .before .loop .inv) (c .loop-test .left)
+-- src/root.rt:52:1
+returns-2 : tie.Need-returns-2
+returns-2 c = search needs
 
 pub floor-root-spec : {M : Type 1} → statement M
 floor-root-spec =
-    tie.close (tie.spec Inv-loop μ-loop loop-holds add-t mul-if1 loop-less loop-again returns)
+    tie.close
+    (tie.spec
+    guess-requires
+    mul-if1
+    add-if2
+    add-if2-2
+    mul-if2
+    returns
+    by-digits-requires
+    returns-2)

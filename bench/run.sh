@@ -1,0 +1,68 @@
+#!/usr/bin/env bash
+# Builds ours and the original for this machine, compares their results and measures both in one run:
+#   MINIKALMAN_SRC=folder bash bench/run.sh [folder] [--plot]
+# The folder holds src/matrix/traits.rs or matrix/traits.rs of minikalman 0.8.1, and its neighbours.
+# Everything that is built or drawn lies in target/bench. The exit status is 0 where every bar holds,
+# 1 where one does not, and 2 where nothing could be measured.
+set -eu
+
+here=$(cd "$(dirname "$0")" && pwd)
+root=$(dirname "$here")
+out=$root/target/bench
+
+die() { echo "bench/run.sh: $*" >&2; exit 2; }
+
+given=${MINIKALMAN_SRC:-} plot=''
+for word in "$@"; do
+  case $word in
+    --plot) plot=yes ;;
+    -*) die "'$word' is not known: bench/run.sh [folder] [--plot]" ;;
+    *) given=$word ;;
+  esac
+done
+
+command -v rt >/dev/null || die "'rt' of the Rattle kit is not on the PATH."
+command -v rustc >/dev/null || die "rustc is missing."
+[ -n "$given" ] || die "where are the files of minikalman 0.8.1? Set MINIKALMAN_SRC or give the folder as an argument."
+[ -d "$given" ] || die "'$given' is no folder."
+if [ -f "$given/src/matrix/traits.rs" ]; then files=$(cd "$given/src" && pwd)
+elif [ -f "$given/matrix/traits.rs" ]; then files=$(cd "$given" && pwd)
+else die "'$given' holds neither src/matrix/traits.rs nor matrix/traits.rs."
+fi
+while read -r want file; do
+  [ -f "$files/$file" ] || die "'$files' lacks $file."
+  [ "$(sha256sum "$files/$file" | cut -d' ' -f1)" = "$want" ] || die "'$files/$file' is not the file of minikalman 0.8.1 that oracle/CHECKSUMS lists."
+done <"$root/oracle/CHECKSUMS"
+
+cd "$root"
+mkdir -p "$out" target/oracle
+# The oracle's shim names the original's files by this link.
+[ "$(readlink target/oracle/files 2>/dev/null || true)" = "$files" ] || { rm -f target/oracle/files; ln -s "$files" target/oracle/files; }
+
+# On a machine that is no x86-64 this is the proved bitcode compiled for it.
+sh lib/build.sh >"$out/lib.log" 2>&1 || { tail -20 "$out/lib.log" >&2; die "the archive was not built; target/bench/lib.log has it whole."; }
+tail -n 1 "$out/lib.log"
+
+flags='--edition 2021 -C opt-level=3 -C codegen-units=1 -C debuginfo=0'
+rustc $flags --crate-type rlib --crate-name num_traits oracle/num_traits/lib.rs -o "$out/libnum_traits.rlib"
+rustc $flags --crate-type rlib --crate-name minikalman --cfg 'feature="std"' \
+  --extern num_traits="$out/libnum_traits.rlib" bench/original/lib.rs -o "$out/libminikalman.rlib"
+rustc $flags --crate-type bin --crate-name bench -L "$out" --extern minikalman="$out/libminikalman.rlib" \
+  -C link-arg="$root/target/lib/libyurgamysh.a" bench/src/main.rs -o "$out/bench"
+
+echo "processor: $(sed -n 's/^model name[^:]*: //p' /proc/cpuinfo | head -1), family $(sed -n 's/^cpu family[^:]*: //p' /proc/cpuinfo | head -1), model $(sed -n 's/^model[[:space:]]*: //p' /proc/cpuinfo | head -1), $(nproc) cores; load $(cut -d' ' -f1 /proc/loadavg)"
+echo "kernel: $(uname -sr)"
+echo "compilers: $(rustc --version); $(rt version)"
+echo "date: $(date -u +%Y-%m-%d)"
+echo
+status=0
+"$out/bench" --data "$out/figures.tsv" || status=$?
+[ "$status" -le 1 ] || die "nothing was measured."
+
+if [ -n "$plot" ] && ! command -v gnuplot >/dev/null; then
+  echo "bench/run.sh: nothing is drawn, since gnuplot is missing (the system's package 'gnuplot-nox'); target/bench/figures.tsv has the figures." >&2
+elif [ -n "$plot" ]; then
+  gnuplot -e "data='$out/figures.tsv'; picture='$out/speed.svg'" bench/plot.gp
+  echo "target/bench/speed.svg is drawn"
+fi
+exit "$status"

@@ -1,0 +1,82 @@
+//! Ours and the original, side by side. See bench/README.md.
+
+mod alone;
+mod filters;
+mod model;
+mod ours;
+mod report;
+mod stack;
+mod timing;
+
+use std::time::Duration;
+
+/// Whether two buffers hold the same bits.
+fn same(a: &[f32], b: &[f32]) -> bool {
+    a.len() == b.len() && a.iter().zip(b).all(|(a, b)| a.to_bits() == b.to_bits())
+}
+
+macro_rules! sizes {
+    ($plan:expr, $figures:expr, $(($n:literal, $m:literal)),*) => {
+        $(filters::run::<$n, $m, { $n * $n }, { $m * $n }, { $m * $m }>($plan, $figures)?;)*
+    };
+}
+
+fn measure(plan: timing::Plan) -> Result<Vec<report::Figure>, String> {
+    let mut figures = Vec::new();
+    sizes!(
+        plan,
+        &mut figures,
+        (1, 1),
+        (2, 1),
+        (4, 2),
+        (6, 3),
+        (9, 3),
+        (16, 16)
+    );
+    alone::decomposition::<1, 1>(plan, &mut figures)?;
+    alone::decomposition::<4, 16>(plan, &mut figures)?;
+    alone::decomposition::<16, 256>(plan, &mut figures)?;
+    alone::root(plan, &mut figures)?;
+    alone::one_state(plan, &mut figures)?;
+    Ok(figures)
+}
+
+/// Measures and prints; whether every bar holds.
+fn run(data: Option<&str>) -> Result<bool, String> {
+    let plan = timing::Plan {
+        repetitions: 31,
+        batch: Duration::from_millis(1),
+    };
+    let figures = measure(plan)?;
+    report::table(&figures);
+    println!();
+    let [predict, correct] = alone::refused(plan)?;
+    println!(
+        "a call that is refused for its last buffer: predict {:.1} ns, correct {:.1} ns",
+        predict.median, correct.median
+    );
+    let [predict, correct, decompose] = alone::stacks();
+    println!("stack at 16: predict {predict} bytes, correct {correct}, decomposition {decompose}");
+    if let Some(file) = data {
+        std::fs::write(file, report::lines(&figures)).map_err(|e| format!("{file}: {e}"))?;
+    }
+    Ok(report::bars(&figures))
+}
+
+fn main() {
+    let words: Vec<String> = std::env::args().skip(1).collect();
+    let words: Vec<&str> = words.iter().map(String::as_str).collect();
+    let result = match words[..] {
+        [] => run(None),
+        ["--data", file] => run(Some(file)),
+        _ => Err("use: bench [--data FILE]".into()),
+    };
+    match result {
+        Ok(true) => {}
+        Ok(false) => std::process::exit(1),
+        Err(why) => {
+            eprintln!("bench: {why}");
+            std::process::exit(2);
+        }
+    }
+}

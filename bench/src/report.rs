@@ -1,0 +1,154 @@
+//! The figures, the table, and the bars.
+
+use crate::timing::Times;
+
+#[derive(Clone, Copy, PartialEq, Eq)]
+pub enum Kind {
+    Predict,
+    Correct,
+    Chain,
+    Decomposition,
+    Root,
+    OnePredict,
+    OneCorrect,
+}
+
+pub struct Figure {
+    pub kind: Kind,
+    pub n: usize,
+    pub m: usize,
+    pub ours: Times,
+    pub arrays: Times,
+    pub slices: Option<Times>,
+}
+
+impl Figure {
+    pub fn at(kind: Kind, n: usize, m: usize, [ours, arrays, slices]: [Times; 3]) -> Figure {
+        Figure {
+            kind,
+            n,
+            m,
+            ours,
+            arrays,
+            slices: Some(slices),
+        }
+    }
+
+    pub fn alone(kind: Kind, ours: Times, arrays: Times) -> Figure {
+        Figure {
+            kind,
+            n: 1,
+            m: 1,
+            ours,
+            arrays,
+            slices: None,
+        }
+    }
+
+    fn name(&self) -> String {
+        let (n, m) = (self.n, self.m);
+        match self.kind {
+            Kind::Predict => format!("predict ({n}, {m})"),
+            Kind::Correct => format!("correct ({n}, {m})"),
+            Kind::Chain => format!("chain ({n}, {m})"),
+            Kind::Decomposition => format!("decomposition {n}"),
+            Kind::Root => "root".into(),
+            Kind::OnePredict => "one-state predict".into(),
+            Kind::OneCorrect => "one-state correct".into(),
+        }
+    }
+
+    /// How many times as fast ours is as the original over arrays.
+    fn ratio(&self) -> f64 {
+        self.arrays.by_first
+    }
+
+    /// Whether the geometric mean is taken over it.
+    fn counts(&self) -> bool {
+        matches!(self.kind, Kind::Predict | Kind::Correct | Kind::Chain)
+    }
+}
+
+pub fn table(figures: &[Figure]) {
+    println!("| | ours, ns | original, arrays, ns | original, slices, ns | arrays / ours | slices / ours | arrays / ours, least |");
+    println!("|---|---|---|---|---|---|---|");
+    for f in figures {
+        let (slices, by) = match f.slices {
+            Some(s) => (format!("{:.1}", s.median), format!("{:.2}", s.by_first)),
+            None => ("".into(), "".into()),
+        };
+        println!(
+            "| {} | {:.1} | {:.1} | {} | {:.2} | {} | {:.2} |",
+            f.name(),
+            f.ours.median,
+            f.arrays.median,
+            slices,
+            f.ratio(),
+            by,
+            f.arrays.least / f.ours.least
+        );
+    }
+}
+
+/// The figures as lines with tabs, a heading first; a figure that is not there is `?`.
+pub fn lines(figures: &[Figure]) -> String {
+    let mut text = String::from("what\tours\tarrays\tslices\tby_arrays\tby_slices\n");
+    for f in figures {
+        let (slices, by) = match f.slices {
+            Some(s) => (format!("{:.2}", s.median), format!("{:.3}", s.by_first)),
+            None => ("?".into(), "?".into()),
+        };
+        let (ours, arrays) = (f.ours.median, f.arrays.median);
+        text += &format!(
+            "{}\t{ours:.2}\t{arrays:.2}\t{slices}\t{:.3}\t{by}\n",
+            f.name(),
+            f.ratio()
+        );
+    }
+    text
+}
+
+fn mean(ratios: impl Iterator<Item = f64>) -> f64 {
+    let (sum, count) = ratios.fold((0.0, 0), |(s, c), r| (s + r.ln(), c + 1));
+    (sum / count as f64).exp()
+}
+
+/// Prints the geometric mean and the bars; whether all hold.
+pub fn bars(figures: &[Figure]) -> bool {
+    let counted = || figures.iter().filter(|f| f.counts());
+    let over_arrays = mean(counted().map(Figure::ratio));
+    let over_slices = mean(counted().filter_map(|f| Some(f.slices?.by_first)));
+    println!("geometric mean over predict, correct and chain: {over_arrays:.2} against arrays, {over_slices:.2} against slices");
+    let mut all = true;
+    let mut bar = |name: &str, value: f64, holds: bool| {
+        println!(
+            "{} {name}: {value:.2}",
+            if holds { "holds " } else { "FAILS " }
+        );
+        all &= holds;
+    };
+    bar(
+        "geometric mean at least 1.2",
+        over_arrays,
+        over_arrays >= 1.2,
+    );
+    let least =
+        |of: &mut dyn Iterator<Item = &Figure>| of.map(Figure::ratio).fold(f64::INFINITY, f64::min);
+    let sixteen = least(&mut counted().filter(|f| f.n == 16));
+    bar(
+        "(16, 16) at least 2, the least of three",
+        sixteen,
+        sixteen >= 2.0,
+    );
+    let slowest = least(&mut counted());
+    bar("no figure below 0.67, the least", slowest, slowest >= 0.67);
+    if let Some(f) = figures.iter().find(|f| f.kind == Kind::OneCorrect) {
+        let times = 1.0 / f.ratio();
+        bar(
+            "one-state correct at most 2 times the original's",
+            times,
+            times <= 2.0,
+        );
+    }
+    all
+}

@@ -1,0 +1,5 @@
+-- Laws that belong to no one function.
+mod Stepping
+mod Counting
+mod Fractions
+mod Patterns

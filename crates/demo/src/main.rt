@@ -1,0 +1,13 @@
+// A feeder's shift: eighteen readings of a yarn's tension, one of which is lost on the wire and one
+// of which is refused. Writes a line for each step, and then what became of the readings.
+mod feeder;
+mod hundredths;
+mod shift;
+mod table;
+mod tally;
+
+fn main() {
+    table::head();
+    let t = tally::run();
+    table::foot(t);
+}
