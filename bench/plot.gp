@@ -9,6 +9,7 @@ set style histogram clustered gap 1
 set style fill solid 0.8 border -1
 set boxwidth 0.9
 set xtics rotate by -45 nomirror
+set rmargin 10
 set grid ytics
 set logscale y
 set multiplot layout 2,1

@@ -1,13 +1,12 @@
 -- What it says in numbers that a call is not refused with 1, 2 or 3: each size is 1 to 16, each buffer has its matrix' cells, each row and column is below its size.
 -- By the table: Done is given only so. Assumes nothing.
-use mathlib.Core.Path.{_≡_, refl, sym, ap, _∙_, subst}
-use mathlib.Core.Bool.{Bool, true, false, not, _&&_, true≢false}
+use mathlib.Core.Path.{_≡_, refl, sym}
+use mathlib.Core.Bool.{Bool, true, false, _&&_, true≢false}
 use mathlib.Core.List.{List, [], _∷_}
 use Prim.Native.Nat.{ℕ, _≤_, _<_}
 use lib.Dec.{leb, ltb}
 use borrow.Author.Tests.{leb-true, ltb-true, ltb-false, not-true}
 use Rattle.answers.specs.declared.Answer.{Answer}
-use Rattle.answers.specs.declared.Answer.the-variants.{Done, Size, Short, Range}
 use Rattle.answers.specs.Answers.{isDone}
 use Rattle.answers.specs.Tests.{sizeTaken, Lent, Place, callAnswer}
 use Rattle.answers.specs.Exactly.{All, holds, inside, Given, size, short, range, done}

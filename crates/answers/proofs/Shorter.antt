@@ -1,5 +1,5 @@
 -- len is below rows·cols exactly where the quotient of len by cols is below rows. Assumes nothing.
-use mathlib.Core.Path.{_≡_, refl, sym, _∙_}
+use mathlib.Core.Path.{_≡_, refl, sym}
 use mathlib.Core.Bool.{Bool, true, false}
 use Prim.Native.Nat.{ℕ, _*_, _/_, _<_, _≤_}
 use native.Mathlib.Nat.{div-lt-iff-lt-mul, lt-of-not-le, le-of-suc-le-suc, not-le-of-lt, mul-le-mul, mul-zero}

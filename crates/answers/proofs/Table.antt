@@ -2,16 +2,15 @@
 -- Of each list either all pass or there is a first that fails; a first that fails decides the answer, and where all pass the next list does. Assumes nothing.
 use mathlib.Core.Path.{_≡_, refl, sym, ap, _∙_, subst}
 use mathlib.Core.Logic.{_⊎_, inl, inr, ⊎-elim}
-use mathlib.Core.Bool.{Bool, true, false, not, cond, _&&_}
+use mathlib.Core.Bool.{Bool, true, false, not, cond}
 use mathlib.Core.List.{List, [], _∷_, _++_, append-nil}
 use Prim.Native.Nat.{ℕ, zero, suc, _+_}
 use native.Mathlib.Nat.{add-zero, add-suc, suc-add, zero-add}
-use native.Mathlib.Omega.{arith}
-use lib.Dec.{leb, ltb}
+use lib.Dec.{ltb}
 use Rattle.answers.specs.declared.Answer.{Answer}
-use Rattle.answers.specs.declared.Answer.the-variants.{Done, Size, Short, Range, Pivot}
-use Rattle.answers.specs.Answers.{isDone, firstOf}
-use Rattle.answers.specs.Tests.{sizeTaken, sizeTest, bufferTest, placeTest, Lent, Place, sizeTests, bufferTests, placeTests, afterTests, callAnswer}
+use Rattle.answers.specs.declared.Answer.the-variants.{Done, Size, Short, Range}
+use Rattle.answers.specs.Answers.{isDone}
+use Rattle.answers.specs.Tests.{sizeTaken, bufferTest, Lent, Place, sizeTests, bufferTests, placeTests, afterTests, callAnswer}
 use Rattle.answers.specs.Exactly.{All, FirstNot, holds, inside, Given, size, short, range, done}
 
 -- ---- any list of tests

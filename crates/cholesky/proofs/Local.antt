@@ -1,5 +1,5 @@
 -- The decomposition of an n by n matrix goes by the entries within n by n alone: by induction on the columns, each of which reads and writes there. Assumes nothing.
-use mathlib.Core.Path.{_≡_, refl, sym, ap, ap₂, subst, _∙_}
+use mathlib.Core.Path.{_≡_, refl, ap, ap₂, subst}
 use mathlib.Core.Bool.{Bool, true, false, cond}
 use Prim.Native.Nat.{ℕ, zero, suc, _≤_, _<_}
 use native.Mathlib.Omega.{arith}
@@ -11,7 +11,7 @@ use Rattle.data_type.specs.Root.{sqrtOf}
 use Rattle.row_major.specs.Grid.{withCell}
 use Rattle.row_major.proofs.Steps.{Same, with-local}
 use Rattle.cholesky.specs.Pivots.{pivotTaken}
-use Rattle.cholesky.specs.Decomposition.{remains, below, column, factor, pivotAt, lastRecip, reached, refusedAt, lower, decomposed}
+use Rattle.cholesky.specs.Decomposition.{remains, column, factor, pivotAt, lastRecip, reached, refusedAt, lower, decomposed}
 use Rattle.cholesky.proofs.Below.{remains-local, below-local}
 use Rattle.cholesky.proofs.First.{first-ext}
 use Rattle.cholesky.proofs.Triangle.{lower-local}

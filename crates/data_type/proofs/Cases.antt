@@ -1,6 +1,6 @@
 -- The cases of `square_root`, for a value x of a format and its bit pattern b with the fields e and t: each says what the code returns there, by what the fields stand for. Assumes nothing.
 use mathlib.Core.Path.{_≡_, refl, sym, ap, _∙_, subst}
-use mathlib.Core.Bool.{Bool, true, false, not, cond, true≢false, false≢true}
+use mathlib.Core.Bool.{Bool, true, false, not, cond, false≢true}
 use Prim.Native.Nat.{ℕ, zero, suc, _+_, _-_, _*_, _^_, _≤_, _<_}
 use native.Mathlib.Nat.{le-of-suc-le-suc, le-add-right, lt-of-lt-of-le, lt-irrefl, pos-of-ne-zero, zero-lt-suc, zero-mul, mul-assoc, mul-pos, mod-lt}
 use native.Mathlib.Omega.{arith}
@@ -16,18 +16,13 @@ use borrow.Author.Tests.{lt-leb, le-leb}
 use Rattle.data_type.specs.Root.{sqrtOf}
 use Rattle.data_type.specs.Pattern.{rootBits}
 use Rattle.data_type.proofs.Patterns.{field, digits, digits-lt, base, of-fields, at-ones, subnormal, normal, root-result}
+use Rattle.data_type.proofs.NotNan.{not-nan}
 use Rattle.data_type.proofs.Subnormal.{lift, moved, moved-up}
 
 -- ---- a NaN, either zero, and +∞ are their own roots
 pub own-nan : (f : Format) (x : Float) → ne x x ≡ true → x ≡ sqrtOf f x
 unfolding sqrtOf
 own-nan f x h = let e : x ≡ nan = differs-from-itself x (subst T (sym h) tt) in subst (λ (y : Float). y ≡ sqrtOf f y) (sym e) refl
-
-pub not-nan : (x : Float) → ne x x ≡ false → T (not (isNan x))
-unfolding isNan ne
-not-nan nan h = absurd (true≢false h)
-not-nan (inf s) h = tt
-not-nan (fin s m e) h = tt
 
 own-zero : (f : Format) (s : Bool) → ofFields f s 0 0 ≡ sqrtOf f (ofFields f s 0 0)
 unfolding sqrtOf ofFields

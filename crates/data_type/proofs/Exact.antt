@@ -1,15 +1,14 @@
 -- Sums and products of whole numbers are exact while they stay within 2 ^ prec, and so is a sumFrom sum of them while the sum of their absSum does. Assumes nothing.
 use mathlib.Core.Path.{_≡_, refl, sym, ap, ap₂, _∙_, subst}
-use mathlib.Core.Logic.{_⊎_, inl, inr, ⊎-elim}
+use mathlib.Core.Logic.{_⊎_, ⊎-elim}
 use Prim.Native.Nat.{ℕ, zero, suc, _+_, _-_, _*_, _^_, _≤_, _<_, suc-le-suc}
-use native.Mathlib.Nat.{eq-of-mul-eq-mul-right, le-step, le-of-suc-le-suc, not-suc-le-zero, eq-or-lt-of-le, le-add-left, le-add-right, add-comm, le-trans, le-of-eq, le-of-lt, le-refl, sub-add-cancel, le-of-mul-le-mul-right, zero-lt-suc, zero-add, mul-one, one-mul, mul-pos, mul-mul-mul-comm, mul-right-comm, mul-assoc, mul-comm, mul-sub, mul-lt-mul-of-pos-right, lt-of-mul-lt-mul-right, add-mul, zero-mul, mul-zero}
+use native.Mathlib.Nat.{eq-of-mul-eq-mul-right, le-step, le-of-suc-le-suc, not-suc-le-zero, eq-or-lt-of-le, le-add-left, le-add-right, add-comm, le-trans, le-of-eq, le-of-lt, le-refl, sub-add-cancel, le-of-mul-le-mul-right, zero-lt-suc, mul-one, mul-pos, mul-mul-mul-comm, mul-assoc, mul-comm, mul-sub, add-mul, zero-mul, mul-zero}
 use native.Mathlib.Omega.{arith}
-use mathlib.Core.Bool.{Bool, true, false, not, _&&_, Bool·beq, cond}
+use mathlib.Core.Bool.{Bool, true, false, not, cond}
 use lib.IntN.{ℤ, pos, negsuc, negℤ, natAbs, subℕ, _+ℤ_, _-ℤ_, _*ℤ_, +ℤ-idl, +ℤ-comm, negℤ-negℤ, negℤ-+ℤ, +ℤ-negℤ-cancel}
-use lib.Dec.{T, ltb, ltb→lt, lt→ltb, nltb→le}
+use lib.Dec.{T, ltb, ltb→lt, nltb→le}
 use lib.Ieee.{Float, nan, inf, fin, Format, prec, up, down, unlike, round, sum, neg, add, sub, mul}
 use lib.Ieee.Fits.{down-pos}
-use lib.Ieee.Exact.{HasValue}
 use lib.Ieee.Scale.{round-same}
 use lib.Ieee.Back.{round-whole}
 use Rattle.data_type.specs.Whole.{signed, Whole, sumℤ, absSum, productsℤ}

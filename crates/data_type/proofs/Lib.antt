@@ -8,6 +8,7 @@ mod Guess
 mod NearRoot
 mod Patterns
 mod Subnormal
+pub mod NotNan
 mod Cases
 pub mod Same
 pub mod Exact

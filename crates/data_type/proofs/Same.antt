@@ -1,12 +1,11 @@
 -- Two values of a format that are the same number with the same sign are one value. Assumes nothing.
-use mathlib.Core.Path.{_≡_, refl, sym, ap, ap₂, _∙_, subst}
+use mathlib.Core.Path.{_≡_, sym, ap, ap₂, _∙_}
 use Prim.Native.Nat.{ℕ, _+_, _-_, _*_, _/_, _^_, _<_}
-use native.Mathlib.Nat.{mul-comm, mul-right-comm, eq-of-mul-eq-mul-right}
-use native.Mathlib.Omega.{arith}
-use mathlib.Core.Bool.{Bool, true, false, cond}
+use native.Mathlib.Nat.{mul-right-comm, eq-of-mul-eq-mul-right}
+use mathlib.Core.Bool.{Bool, cond}
 use lib.IntN.{ℤ}
 use lib.Dec.{T}
-use lib.Ieee.{Float, nan, inf, fin, Format, prec, low, hid, top, up, down, unlike, size, round, mul, fits, toBits, ofBits}
+use lib.Ieee.{Float, nan, inf, fin, Format, prec, low, hid, top, up, down, size, fits, toBits, ofBits}
 use lib.Ieee.Fits.{down-pos}
 use lib.Ieee.Bits.{ofBits-toBits}
 use lib.Ieee.Nearest.{div-same}

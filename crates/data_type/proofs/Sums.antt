@@ -1,5 +1,5 @@
 -- What a loop that adds up needs: a turn from a given start, a turn from the first term, and terms that are equal one by one. Assumes nothing.
-use mathlib.Core.Path.{_≡_, refl, ap, ap₂, sym, _∙_}
+use mathlib.Core.Path.{_≡_, refl, ap₂}
 use Prim.Native.Nat.{ℕ, zero, suc, _+_, _<_}
 use native.Mathlib.Nat.{le-step, le-refl, not-suc-le-zero}
 use native.Mathlib.Numerals.{add-one}

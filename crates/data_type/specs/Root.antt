@@ -1,8 +1,8 @@
 -- The square root of a value of a format, rounded to nearest. Definitions only.
 -- `IsRoot` says which number it is; `sqrtOf` works it out. That `sqrtOf` is what `IsRoot` says, and that no other number is, is proved in `proofs/Exists.antt`.
 use mathlib.Core.Path.{_≡_}
-use mathlib.Core.Bool.{Bool, true, false, cond}
-use Prim.Native.Nat.{ℕ, zero, suc, _+_, _-_, _*_, _/_, _%_, _^_, _≤_, _<_}
+use mathlib.Core.Bool.{true, false, cond}
+use Prim.Native.Nat.{ℕ, zero, suc, _+_, _-_, _*_, _/_, _^_, _≤_, _<_}
 use lib.IntN.{ℤ}
 use lib.Dec.{leb, ltb}
 use lib.Ieee.{Float, nan, inf, fin, Format, prec, low, up, down, size, units}

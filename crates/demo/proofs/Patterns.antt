@@ -1,14 +1,14 @@
 -- What the fields of a bit pattern stand for, in the three ranges of the exponent's field that `in_hundredths` tells apart. Assumes nothing.
 use mathlib.Core.Path.{_≡_, refl, sym, ap, ap₂, _∙_, subst}
 use mathlib.Core.Logic.{⊎-elim}
-use mathlib.Core.Bool.{Bool, true, false, not, cond, true≢false}
+use mathlib.Core.Bool.{Bool, true, false, cond}
 use Prim.Native.Nat.{ℕ, zero, suc, _+_, _-_, _*_, _/_, _%_, _^_, _≤_, _<_}
 use native.Mathlib.Nat.{eq-or-lt-of-le, lt-irrefl, le-trans, lt-of-lt-of-le, lt-of-le-of-lt, one-mul, mul-assoc, mul-le-mul, mul-le-mul-left, mul-le-mul-right}
 use native.Mathlib.Numerals.{sub-one}
 use native.Mathlib.Omega.{arith}
 use lib.Dec.{T, leb, eqb, lit≤, lit<}
 use lib.Pow.{pow-add, pow-pos, pow-mono, shl-lt, shl-exact}
-use lib.Ieee.{Float, nan, inf, fin, binary32, hid, top, ofFields, ofBits, toBits, isNan, ne, fits}
+use lib.Ieee.{Float, nan, inf, binary32, hid, top, ofFields, ofBits, toBits, ne, fits}
 use lib.Ieee.Bits.{ofBits-toBits}
 use lib.Ieee.Compare.{differs-from-itself}
 use lib.Ieee.Exact.{HasValue, odd-sign}
@@ -19,12 +19,6 @@ use Rattle.demo.proofs.Fractions.{shown-at, shown-past, shown-below, ne
 -- ---- the test `v != v`
 pub nan-beyond : (v : Float) → ne v v ≡ true → shown v ≡ false
 nan-beyond v h = rw (differs-from-itself v (subst T (sym h) tt))
-
-pub not-nan : (v : Float) → ne v v ≡ false → T (not (isNan v))
-unfolding isNan ne
-not-nan nan h = absurd (true≢false h)
-not-nan (inf s) h = tt
-not-nan (fin s m e) h = tt
 
 -- ---- the value of the fields x and t: a field of 0 has no leading digit
 abbrev digits : ℕ → ℕ → ℕ

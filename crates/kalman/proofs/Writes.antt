@@ -1,5 +1,5 @@
 -- The writes of a prediction, one after the other, leave what the definitions say: a cell that was written is read back, and a matrix written over a matrix is the later one. Assumes nothing.
-use mathlib.Core.Path.{_≡_, refl, sym, ap, _∙_}
+use mathlib.Core.Path.{_≡_, sym, ap, _∙_}
 use mathlib.Core.List.{List}
 use Prim.Native.Nat.{ℕ, _*_, _≤_, _<_}
 use native.Mathlib.Nat.{zero-add}
@@ -12,7 +12,7 @@ use Rattle.row_major.specs.Grid.{cell, run, grid}
 use Rattle.row_major.proofs.Grids.{run-ext, run-cell, grid-cell, grid-ext}
 use Rattle.sums.proofs.Over.{over-left}
 use Rattle.products.specs.Entries.{timesT}
-use Rattle.kalman.specs.Prediction.{predictedX, tempP, predictedP}
+use Rattle.kalman.specs.Prediction.{tempP, predictedP}
 
 -- predicted_x = g, copied to x
 pub copied : (n : ℕ) (g : ℕ → Float) (x px px' x' : List Float) → n ≤ length px → px' ≡ run 0 n g px → x' ≡ run 0 n (λ i. getD px' i nan) x → x' ≡ run 0 n g x

@@ -1,7 +1,6 @@
 -- `hex8At` at a few lists, by computation. Assumes nothing.
 use mathlib.Core.Path.{_≡_, refl}
-use mathlib.Core.List.{List, [], _∷_}
-use Prim.Native.Nat.{ℕ}
+use mathlib.Core.List.{[], _∷_}
 use Rattle.lines.specs.Hex.{digitOf, digitsFrom, hex8At}
 use Rattle.lines.specs.declared.Read.the-variants.{Number, Bad}
 

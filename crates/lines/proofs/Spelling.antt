@@ -7,7 +7,6 @@ use native.Mathlib.Omega.{arith}
 use lib.ListN.{length, getD, List·getD-eq-default}
 use borrow.Author.Tests.{eq-eqb, ne-eqb}
 use Rattle.lines.specs.declared.Read.the-variants.{Number, Bad}
-use Rattle.lines.specs.declared.words.Word.{Word}
 use Rattle.lines.specs.Hex.{hex8At}
 use Rattle.lines.specs.Word.{lost, wordAt}
 

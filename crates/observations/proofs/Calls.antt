@@ -17,7 +17,7 @@ use Rattle.cholesky.specs.Promise.{pivotAnswer}
 use Rattle.cholesky.proofs.Calls.{is-done}
 use Rattle.inverse.specs.Inverse.{inverse}
 use Rattle.inverse.proofs.OnlyLower.{inverse-lower}
-use Rattle.observations.specs.Correction.{innovationOf, HPOf, factorOf, pivotOf, inverseOf, PHtOf, gainOf, newX, KHPOf, newP}
+use Rattle.observations.specs.Correction.{innovationOf, HPOf, factorOf, pivotOf, inverseOf, PHtOf, gainOf, newX, KHPOf}
 use Rattle.observations.specs.Lent.{Buffers, correctAnswer}
 use Rattle.observations.specs.Promise.{Renewed, withY, innovated}
 use Rattle.observations.proofs.Entries.{Alike, written, times-alike, timesX-alike}

@@ -9,7 +9,7 @@ use lib.Ieee.{Float, Format, nan, mul}
 use Rattle.data_type.specs.Sums.{plus0, sumFrom, sumFirst, products}
 use Rattle.data_type.proofs.Sums.{sum-same}
 use Rattle.row_major.specs.Grid.{cell, run, grid}
-use Rattle.row_major.proofs.Grids.{run-cell, grid-cell, grid-ext, grid-flat}
+use Rattle.row_major.proofs.Grids.{run-cell, grid-cell, grid-flat}
 use Rattle.products.specs.Entries.{times, timesT, timesX}
 
 -- the two have the same entries within rows by cols

@@ -1,9 +1,8 @@
 -- The steps of a correction one after the other, over plain lists: from what each call leaves to the entries of document 01.
 -- A step reads a buffer that an earlier one wrote within its matrix alone, so its cells may be replaced by the entries written. Assumes nothing.
-use mathlib.Core.Path.{_≡_, refl, sym, ap, ap₂, _∙_}
+use mathlib.Core.Path.{_≡_, refl, ap, _∙_}
 use mathlib.Core.List.{List}
-use Prim.Native.Nat.{ℕ, _*_, _≤_, _<_}
-use native.Mathlib.Omega.{arith}
+use Prim.Native.Nat.{ℕ, _*_, _≤_}
 use lib.ListN.{length, getD}
 use lib.Ieee.{Float, Format, nan, add, sub}
 use Rattle.row_major.specs.Grid.{cell, run, grid}
@@ -13,7 +12,7 @@ use Rattle.products.specs.Entries.{times, timesT, numbers, product, productT, r
 use Rattle.cholesky.specs.Decomposition.{reached, decomposed}
 use Rattle.inverse.specs.Inverse.{inverse}
 use Rattle.observations.specs.Correction.{innovationOf, HPOf, residualOf, factorOf, pivotOf, PHtOf}
-use Rattle.observations.proofs.Entries.{Alike, written, front-cell, entrywise, times-alike, timesT-alike}
+use Rattle.observations.proofs.Entries.{written, front-cell, entrywise, times-alike, timesT-alike}
 use Rattle.cholesky.proofs.Local.{reached-local, decomposed-local}
 
 -- y = H·x, y = z − y.

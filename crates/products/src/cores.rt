@@ -6,7 +6,6 @@ mod sixteen;
 mod transb;
 mod turned;
 
-pub use mult::column_cells;
 pub use mult::mult_cells;
 pub use rowvector::rowvector_add_cells;
 pub use rowvector::rowvector_cells;

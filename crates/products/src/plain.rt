@@ -31,7 +31,7 @@ pub fn mult_buffered(
     let v = gates::buffered(rows, inner, cols, a.len(), b.len(), c.len(), aux.len());
     if answers::is_done(v) {
         cores::mult_cells(rows, inner, cols, a, b, c);
-        cores::column_cells(inner, cols, b, 0, aux);
+        row_major::cores::copy_column(inner, cols, b, 0, aux);
     }
     v
 }

@@ -6,7 +6,7 @@ use lib.Dec.{eqb}
 use lib.Ieee.{Float, binary32, ofBits, toBits}
 use Rattle.data_type.specs.Root.{sqrtOf}
 use Rattle.row_major.specs.Grid.{cell, run, grid}
-use Rattle.products.specs.Entries.{product, rowProduct, numbers}
+use Rattle.products.specs.Entries.{product, rowProduct}
 use Rattle.cholesky.specs.Decomposition.{reached, decomposed}
 use Rattle.inverse.specs.Inverse.{inverse}
 use Rattle.kalman.specs.Prediction.{predictedX, tempP, predictedP}

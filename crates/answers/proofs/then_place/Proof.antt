@@ -1,5 +1,5 @@
 -- `then_place` meets its contract: an earlier refusal stays, and otherwise the test that was made decides. Assumes nothing.
-use mathlib.Core.Path.{_≡_, sym, _∙_}
+use mathlib.Core.Path.{sym, _∙_}
 use borrow.Author.Needs.{needs}
 use borrow.Author.Tests.{lt-ltb, le-ltb}
 use Rattle.answers.proofs.then_place.Statement.{statement}

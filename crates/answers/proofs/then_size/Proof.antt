@@ -1,5 +1,5 @@
 -- `then_size` meets its contract: an earlier refusal stays, and otherwise the test that was made decides. Assumes nothing.
-use mathlib.Core.Path.{_≡_, sym, _∙_}
+use mathlib.Core.Path.{sym, _∙_}
 use borrow.Author.Needs.{needs}
 use Rattle.answers.proofs.then_size.Statement.{statement}
 use Rattle.answers.proofs.then_size.Tie as tie

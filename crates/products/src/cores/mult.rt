@@ -3,7 +3,7 @@ ghost use mathlib.Core.Path.{_≡_};
 ghost use Prim.Native.Nat.{_+_, _*_, _≤_, _<_};
 ghost use lib.ListN.{length};
 ghost use lib.Ieee.{binary32};
-ghost use Rattle.row_major.specs.Grid.{cell, run, grid};
+ghost use Rattle.row_major.specs.Grid.{run, grid};
 ghost use Rattle.products.specs.Entries.{product};
 use crate::cores::sixteen;
 use crate::fours;
@@ -85,17 +85,5 @@ pub fn mult_cells(rows: usize, inner: usize, cols: usize, a: &[f32], b: &[f32], 
         sixteen::sixteen_rows(rows, inner, cols, a, b, c);
     } else {
         mult_rows(rows, inner, cols, a, b, c);
-    }
-}
-
-// Column j of b, into x.
-pub fn column_cells(inner: usize, cols: usize, b: &[f32], j: usize, x: &mut [f32])
-    requires { ⌜ (j < cols) × (inner * cols ≤ length (now b)) × (inner ≤ length (now x)) ⌝ }
-    ensures { λ _. ⌜ now (x .exit) ≡ run 0 inner (λ k. cell cols (now (b .entry)) k j) (now (x .entry)) ⌝ }
-{
-    let mut k: usize = 0;
-    while k < inner {
-        x[k] = b[k * cols + j];
-        k += 1;
     }
 }

@@ -3,10 +3,6 @@ use borrow.Author.Needs.{needs}
 use Rattle.data_type.proofs.Guess.{square-fits}
 use Rattle.data_type.proofs.root.floor_root.Statement.{statement}
 use Rattle.data_type.proofs.root.floor_root.Tie as tie
-use Rattle.data_type.proofs.root.floor_root.Reads as reads
-use Rattle.data_type.proofs.root.floor_root.Lts as lts
-use Rattle.data_type.proofs.root.by_digits.Reads as by-digits-reads
-use Rattle.data_type.proofs.root.guess.Reads as guess-reads
 
 -- src/root.rt:56:9
 guess-requires : tie.Need-guess-requires

@@ -4,10 +4,6 @@ use native.Mathlib.Omega.{arith}
 use Rattle.data_type.proofs.Guess.{square-fits, not-zero}
 use Rattle.data_type.proofs.root.guess.Statement.{statement}
 use Rattle.data_type.proofs.root.guess.Tie as tie
-use Rattle.data_type.proofs.root.guess.Reads as reads
-use Rattle.data_type.proofs.root.guess.Lts as lts
-use Rattle.data_type.proofs.root.line.Reads as line-reads
-use Rattle.data_type.proofs.root.step.Reads as step-reads
 
 -- src/root.rt:53:24
 line-requires : tie.Need-line-requires

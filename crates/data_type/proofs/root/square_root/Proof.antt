@@ -6,7 +6,8 @@ use lib.Dec.{T, lit≤}
 use lib.Ieee.{binary32, fits, toBits}
 use Rattle.data_type.proofs.Patterns.{digits, digits-lt, root-no-nan}
 use Rattle.data_type.proofs.Subnormal.{Moved, moved-up}
-use Rattle.data_type.proofs.Cases.{own-nan, not-nan, case-zero, case-sub, case-sub-below, case-normal, case-below, case-inf, case-inf-below}
+use Rattle.data_type.proofs.NotNan.{not-nan}
+use Rattle.data_type.proofs.Cases.{own-nan, case-zero, case-sub, case-sub-below, case-normal, case-below, case-inf, case-inf-below}
 use Rattle.data_type.proofs.root.square_root.Statement.{statement}
 use Rattle.data_type.proofs.root.square_root.Tie as tie
 

@@ -4,8 +4,6 @@ use native.Mathlib.Nat.{div-le-self}
 use native.Mathlib.Omega.{arith}
 use Rattle.data_type.proofs.root.step.Statement.{statement}
 use Rattle.data_type.proofs.root.step.Tie as tie
-use Rattle.data_type.proofs.root.step.Reads as reads
-use Rattle.data_type.proofs.root.step.Lts as lts
 
 -- src/root.rt:31:10
 div-result : tie.Need-div-result

@@ -6,7 +6,8 @@ use native.Mathlib.Omega.{arith}
 use lib.Dec.{T}
 use lib.Ieee.{binary32, toBits, fits}
 use borrow.Author.Needs.{needs}
-use Rattle.demo.proofs.Patterns.{nan-beyond, not-nan, Shifted, shifted, large, small, middle}
+use Rattle.data_type.proofs.NotNan.{not-nan}
+use Rattle.demo.proofs.Patterns.{nan-beyond, Shifted, shifted, large, small, middle}
 use Rattle.demo.proofs.hundredths.in_hundredths.Statement.{statement}
 use Rattle.demo.proofs.hundredths.in_hundredths.Tie as tie
 

@@ -1,5 +1,5 @@
 -- `regular::predict` meets its contract: the gate's answer decides, and the two cores write nothing in common. Assumes nothing.
-use mathlib.Core.Path.{_≡_, sym, _∙_}
+use mathlib.Core.Path.{sym, _∙_}
 use denote.Ref.{now}
 use lib.ListN.{length}
 use Rattle.answers.proofs.Kept.{accepted}

@@ -1,5 +1,5 @@
 -- `regular::predict_x` meets its contract: the gate's answer decides, and the core leaves what the promise says. Assumes nothing.
-use mathlib.Core.Path.{_≡_, sym, _∙_}
+use mathlib.Core.Path.{sym, _∙_}
 use denote.Ref.{now}
 use lib.ListN.{length}
 use Rattle.answers.proofs.Kept.{accepted}

@@ -5,11 +5,6 @@ use denote.Ref.{now}
 use lib.Ieee.{binary32}
 use Rattle.observations.proofs.cores.gain_cells.Statement.{statement}
 use Rattle.observations.proofs.cores.gain_cells.Tie as tie
-use Rattle.observations.proofs.cores.gain_cells.Reads as reads
-use Rattle.observations.proofs.cores.gain_cells.Lts as lts
-use Rattle.inverse.proofs.cores.invert_cells.Reads as invert-cells-reads
-use Rattle.products.proofs.cores.mult_cells.Reads as mult-cells-reads
-use Rattle.products.proofs.cores.transb_cells.Reads as transb-cells-reads
 
 -- src/cores.rt:62:5
 invert-cells-requires : tie.Need-invert-cells-requires

@@ -5,10 +5,6 @@ use denote.Ref.{now}
 use lib.Ieee.{binary32}
 use Rattle.observations.proofs.cores.innovate_cells.Statement.{statement}
 use Rattle.observations.proofs.cores.innovate_cells.Tie as tie
-use Rattle.observations.proofs.cores.innovate_cells.Reads as reads
-use Rattle.observations.proofs.cores.innovate_cells.Lts as lts
-use Rattle.products.proofs.cores.rowvector_cells.Reads as rowvector-cells-reads
-use Rattle.sums.proofs.cores.sub_cells_b.Reads as sub-cells-b-reads
 
 -- src/cores.rt:20:5
 rowvector-cells-requires : tie.Need-rowvector-cells-requires

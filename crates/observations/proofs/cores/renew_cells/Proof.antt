@@ -5,11 +5,6 @@ use denote.Ref.{now}
 use lib.Ieee.{binary32}
 use Rattle.observations.proofs.cores.renew_cells.Statement.{statement}
 use Rattle.observations.proofs.cores.renew_cells.Tie as tie
-use Rattle.observations.proofs.cores.renew_cells.Reads as reads
-use Rattle.observations.proofs.cores.renew_cells.Lts as lts
-use Rattle.products.proofs.cores.mult_cells.Reads as mult-cells-reads
-use Rattle.products.proofs.cores.rowvector_add_cells.Reads as rowvector-add-cells-reads
-use Rattle.sums.proofs.cores.sub_cells_a.Reads as sub-cells-a-reads
 
 -- src/cores.rt:83:5
 rowvector-add-cells-requires : tie.Need-rowvector-add-cells-requires

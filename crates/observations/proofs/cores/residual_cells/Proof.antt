@@ -4,12 +4,6 @@ use denote.Ref.{now}
 use lib.Ieee.{binary32}
 use Rattle.observations.proofs.cores.residual_cells.Statement.{statement}
 use Rattle.observations.proofs.cores.residual_cells.Tie as tie
-use Rattle.observations.proofs.cores.residual_cells.Reads as reads
-use Rattle.observations.proofs.cores.residual_cells.Lts as lts
-use Rattle.cholesky.proofs.cores.decompose_cells.Reads as decompose-cells-reads
-use Rattle.products.proofs.cores.mult_cells.Reads as mult-cells-reads
-use Rattle.products.proofs.cores.transb_cells.Reads as transb-cells-reads
-use Rattle.sums.proofs.cores.add_cells_a.Reads as add-cells-a-reads
 
 -- src/cores.rt:40:5
 mult-cells-requires : tie.Need-mult-cells-requires

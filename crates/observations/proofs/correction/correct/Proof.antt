@@ -1,12 +1,12 @@
 -- `correction::correct` meets its contract: the gate's answer decides; past it y is the innovation, and the update reads it. Assumes nothing.
-use mathlib.Core.Path.{_≡_, refl, sym, ap, _∙_}
-use mathlib.Core.Bool.{true, false}
+use mathlib.Core.Path.{_≡_, sym, ap, _∙_}
+use mathlib.Core.Bool.{true}
 use native.Mathlib.Omega.{arith}
 use lib.Ieee.{binary32}
 use Rattle.answers.specs.Answers.{isDone}
 use Rattle.answers.proofs.Kept.{accepted}
 use Rattle.observations.specs.Lent.{Buffers, correctAnswer}
-use Rattle.observations.specs.Promise.{innovated, withY}
+use Rattle.observations.specs.Promise.{innovated}
 use Rattle.observations.proofs.Shapes.{correct-fits}
 use Rattle.observations.proofs.Calls.{past-the-door, at-the-door, retold, read-back, pivot-named, none-named, innovated-is, innovated-kept}
 use borrow.Author.Needs.{needs}

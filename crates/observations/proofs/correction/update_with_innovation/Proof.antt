@@ -1,8 +1,7 @@
 -- `correction::update_with_innovation` meets its contract: the gate's answer decides; past it the core's. Assumes nothing.
 use mathlib.Core.Path.{_≡_, refl, sym, ap, _∙_}
-use mathlib.Core.Bool.{true, false}
+use mathlib.Core.Bool.{true}
 use mathlib.Core.List.{[]}
-use native.Mathlib.Omega.{arith}
 use lib.Ieee.{binary32}
 use Rattle.answers.specs.Answers.{isDone}
 use Rattle.answers.proofs.Kept.{accepted}

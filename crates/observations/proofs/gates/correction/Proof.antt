@@ -2,11 +2,6 @@ use borrow.Author.Needs.{needs}
 use Rattle.observations.proofs.Shapes.{after}
 use Rattle.observations.proofs.gates.correction.Statement.{statement}
 use Rattle.observations.proofs.gates.correction.Tie as tie
-use Rattle.observations.proofs.gates.correction.Reads as reads
-use Rattle.observations.proofs.gates.correction.Lts as lts
-use Rattle.answers.proofs.then_buffer.Reads as then-buffer-reads
-use Rattle.answers.proofs.then_matrix.Reads as then-matrix-reads
-use Rattle.answers.proofs.then_size.Reads as then-size-reads
 
 -- src/gates.rt:73:9
 then-size-requires : tie.Need-then-size-requires

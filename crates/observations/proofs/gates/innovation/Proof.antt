@@ -2,11 +2,6 @@ use borrow.Author.Needs.{needs}
 use Rattle.observations.specs.Lent.{innovationAnswer}
 use Rattle.observations.proofs.gates.innovation.Statement.{statement}
 use Rattle.observations.proofs.gates.innovation.Tie as tie
-use Rattle.observations.proofs.gates.innovation.Reads as reads
-use Rattle.observations.proofs.gates.innovation.Lts as lts
-use Rattle.answers.proofs.then_buffer.Reads as then-buffer-reads
-use Rattle.answers.proofs.then_matrix.Reads as then-matrix-reads
-use Rattle.answers.proofs.then_size.Reads as then-size-reads
 
 -- src/gates.rt:13:9
 then-size-requires : tie.Need-then-size-requires

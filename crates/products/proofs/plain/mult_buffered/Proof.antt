@@ -17,8 +17,8 @@ mult-cells-requires c κs =
     let s = buffered-fits _ _ _ _ _ _ _ (accepted (c .before .before .before .buffered .ensures) (c .before .before .is-done .ensures) (c .before .if1 .taken)) .shape in
     (s .holds-left, s .holds-right, s .holds-into)
 
-column-cells-requires : tie.Need-column-cells-requires
-column-cells-requires c κs =
+copy-column-requires : tie.Need-copy-column-requires
+copy-column-requires c κs =
     let s = buffered-fits _ _ _ _ _ _ _ (accepted (c .before .before .before .before .before .before .before .buffered .ensures) (c .before .before .before .before .before .before .is-done .ensures) (c .before .before .before .before .before .if1 .taken)) in
     (s .shape .cols-least, s .shape .holds-right, s .holds-aux)
 
@@ -32,7 +32,7 @@ returns : tie.Need-returns
 returns c = record {
   answer = c .before .before .before .before .before .before .before .before .before .before .buffered .ensures;
   after = simp (sym (c .before .before .before .before .before .before .before .before .before .is-done .ensures) ∙ c .before .before .before .before .before .before .before .before .if1 .taken) (c .before .before .before .before .before .before .mult-cells .ensures);
-  auxiliary = simp (sym (c .before .before .before .before .before .before .before .before .before .is-done .ensures) ∙ c .before .before .before .before .before .before .before .before .if1 .taken) (c .before .before .column-cells .ensures);
+  auxiliary = simp (sym (c .before .before .before .before .before .before .before .before .before .is-done .ensures) ∙ c .before .before .before .before .before .before .before .before .if1 .taken) (c .before .before .copy-column .ensures);
 }
 
 returns-2 : tie.Need-returns-2
@@ -47,7 +47,7 @@ mult-buffered-spec =
     buffered-requires
     is-done-requires
     mult-cells-requires
-    column-cells-requires
+    copy-column-requires
     same-length
     same-length-2
     returns

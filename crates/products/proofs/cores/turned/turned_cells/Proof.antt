@@ -5,10 +5,6 @@ use borrow.Author.Needs.{needs}
 use Rattle.products.proofs.Turned.{by-transpose}
 use Rattle.products.proofs.cores.turned.turned_cells.Statement.{statement}
 use Rattle.products.proofs.cores.turned.turned_cells.Tie as tie
-use Rattle.products.proofs.cores.turned.turned_cells.Reads as reads
-use Rattle.products.proofs.cores.turned.turned_cells.Lts as lts
-use Rattle.products.proofs.cores.mult.mult_cells.Reads as mult-cells-reads
-use Rattle.products.proofs.cores.turned.turn.Reads as turn-reads
 
 -- src/cores/turned.rt:42:26
 slice-aggregate-turn : tie.Need-slice-aggregate-turn
