@@ -1,5 +1,6 @@
 // The work of the products, for callers that have tested sizes and buffers. Every sum has the start
-// and the order of its definition; four sums run side by side, so that none waits for another.
+// and the order of its definition; four sums, or sixteen, run side by side, so that none waits for
+// another.
 mod mult;
 mod rowvector;
 mod sixteen;
