@@ -1,16 +1,15 @@
 -- What it says in numbers that a call is not refused with 1, 2 or 3: each size is 1 to 16, each buffer has its matrix' cells, each row and column is below its size.
--- By the table: Done is given only so. Assumes nothing.
+-- Every test was passed. Assumes nothing.
 use mathlib.Core.Path.{_≡_, refl, sym}
 use mathlib.Core.Bool.{Bool, true, false, _&&_, true≢false}
 use mathlib.Core.List.{List, [], _∷_}
 use Prim.Native.Nat.{ℕ, _≤_, _<_}
 use lib.Dec.{leb, ltb}
 use borrow.Author.Tests.{leb-true, ltb-true, ltb-false, not-true}
-use Rattle.answers.specs.declared.Answer.{Answer}
 use Rattle.answers.specs.Answers.{isDone}
 use Rattle.answers.specs.Tests.{sizeTaken, Lent, Place, callAnswer}
-use Rattle.answers.specs.Exactly.{All, holds, inside, Given, size, short, range, done}
-use Rattle.answers.proofs.Table.{is-given}
+use Rattle.answers.specs.Exactly.{All, holds, inside}
+use Rattle.answers.proofs.Table.{passed}
 
 abbrev pub Sizes : List ℕ → Type 0
 Sizes [] = Unit {0}
@@ -44,12 +43,5 @@ places : (ps : List Place) → All inside ps → Places ps
 places [] h = tt
 places (p ∷ ps) h = (ltb-true (p .index) (p .size) (h .0), places ps (h .1))
 
-module _ (ns : List ℕ) (bs : List Lent) (ps : List Place) where
-  taken : (v : Answer) → Given ns bs ps v → isDone v ≡ true → Sizes ns × Buffers bs × Places ps
-  taken v (size k n h) e = absurd (true≢false (sym e))
-  taken v (short k b a h) e = absurd (true≢false (sym e))
-  taken v (range k p a b h) e = absurd (true≢false (sym e))
-  taken v (done a b c) e = (sizes ns a, buffers bs b, places ps c)
-
-  pub fit : isDone (callAnswer ns bs ps) ≡ true → Sizes ns × Buffers bs × Places ps
-  fit e = taken (callAnswer ns bs ps) (is-given ns bs ps) e
+pub fit : (ns : List ℕ) (bs : List Lent) (ps : List Place) → isDone (callAnswer ns bs ps) ≡ true → Sizes ns × Buffers bs × Places ps
+fit ns bs ps e = let h = passed ns bs ps e in (sizes ns (h .0), buffers bs (h .1), places ps (h .2))

@@ -1,11 +1,20 @@
 -- What a call leaves, by its answer: a refused call leaves what was lent, and one that is done leaves the new numbers. Assumes nothing.
-use mathlib.Core.Path.{_≡_, sym, ap, _∙_}
-use mathlib.Core.Bool.{Bool, true, false}
+use mathlib.Core.Path.{_≡_, refl, sym, ap, _∙_}
+use mathlib.Core.Bool.{Bool, true, false, true≢false}
 use Prim.Native.Nat.{_≤_}
 use native.Mathlib.Omega.{arith}
 use borrow.Author.Tests.{ne-eqb}
 use Rattle.answers.specs.declared.Answer.{Answer}
+use Rattle.answers.specs.declared.Answer.the-variants.{Done, Size, Short, Range, Pivot}
 use Rattle.answers.specs.Answers.{numberOf, isDone, settled}
+
+-- an answer whose number is 0 is Done
+pub is-done : (v : Answer) → isDone v ≡ true → v ≡ Done
+is-done Done e = refl
+is-done (Size k) e = absurd (true≢false (sym e))
+is-done (Short k) e = absurd (true≢false (sym e))
+is-done (Range k) e = absurd (true≢false (sym e))
+is-done (Pivot k) e = absurd (true≢false (sym e))
 
 -- a number that is not 0 is no "done"
 pub not-done : (v : Answer) → 1 ≤ numberOf v → isDone v ≡ false

@@ -1,8 +1,8 @@
--- Document 01's table of refusals, for the sizes, buffers and places of any call: each answer is given exactly when the table says.
+-- The table of refusals 1 to 3 (R3), for the sizes, buffers and places of any call: each answer is given exactly when the table says.
 -- Of each list either all pass or there is a first that fails; a first that fails decides the answer, and where all pass the next list does. Assumes nothing.
 use mathlib.Core.Path.{_≡_, refl, sym, ap, _∙_, subst}
 use mathlib.Core.Logic.{_⊎_, inl, inr, ⊎-elim}
-use mathlib.Core.Bool.{Bool, true, false, not, cond}
+use mathlib.Core.Bool.{Bool, true, false, not, cond, true≢false}
 use mathlib.Core.List.{List, [], _∷_, _++_, append-nil}
 use Prim.Native.Nat.{ℕ, zero, suc, _+_}
 use native.Mathlib.Nat.{add-zero, add-suc, suc-add, zero-add}
@@ -95,3 +95,17 @@ module _ (ns : List ℕ) (bs : List Lent) (ps : List Place) where
       (λ b. ⊎-elim (λ h. found Done (done a b h)) (λ h. found (Range (h .1 .which)) (range (h .0) (h .1) a b (h .2))) (decide inside ps))
       (λ h. found (Short (h .0)) (short (h .0) (h .1) a (h .2))) (decide holds bs))
       (λ h. found (Size (h .0)) (size (h .0) (h .1) (h .2))) (decide sizeTaken ns)
+
+  from-done : (v : Answer) → Given ns bs ps v → isDone v ≡ true → All sizeTaken ns × All holds bs × All inside ps
+  from-done v (size k n h) e = absurd (true≢false (sym e))
+  from-done v (short k b a h) e = absurd (true≢false (sym e))
+  from-done v (range k p a b h) e = absurd (true≢false (sym e))
+  from-done v (done a b c) e = (a, b, c)
+
+  -- a call that is not refused passed every test ..
+  pub passed : isDone (callAnswer ns bs ps) ≡ true → All sizeTaken ns × All holds bs × All inside ps
+  passed = from-done (callAnswer ns bs ps) is-given
+
+  -- .. and one that passes them all is not refused
+  pub passes : All sizeTaken ns → All holds bs → All inside ps → isDone (callAnswer ns bs ps) ≡ true
+  passes a b c = ap isDone (given-is Done (done a b c))

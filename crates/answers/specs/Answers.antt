@@ -1,4 +1,4 @@
--- What an answer says: document 01's number, and the values that it carries. Definitions only.
+-- What an answer says: its number, and the values that it carries (R3). Definitions only.
 -- A later refusal is one more case of the enum and one more line in `numberOf` and in `carriedBy`; nothing else here goes by cases.
 use mathlib.Core.Bool.{Bool, cond}
 use mathlib.Core.List.{List, [], _∷_}
@@ -7,7 +7,7 @@ use lib.Dec.{eqb}
 use Rattle.answers.specs.declared.Answer.{Answer}
 use Rattle.answers.specs.declared.Answer.the-variants.{Done, Size, Short, Range, Pivot}
 
--- the number of the refusal in document 01's table, and 0 for a call that is done
+-- the number of the refusal, and 0 for a call that is done
 abbrev pub numberOf : Answer → ℕ
 numberOf Done = 0
 numberOf (Size k) = 1

@@ -1,4 +1,4 @@
--- Document 01's table of refusals 1 to 3, "given exactly when", for the sizes, buffers and places of any call. Definitions only.
+-- Which answer is given exactly when (R3), for the sizes, buffers and places of any call. Definitions only.
 use mathlib.Core.Path.{_≡_}
 use mathlib.Core.Bool.{Bool, true, false, not}
 use mathlib.Core.List.{List, [], _∷_}

@@ -7,7 +7,7 @@ use Rattle.answers.specs.declared.Answer.{Answer}
 use Rattle.answers.specs.declared.Answer.the-variants.{Done, Size, Short, Range}
 use Rattle.answers.specs.Answers.{firstOf}
 
--- "every matrix size: 1 to 16"
+-- a size that is taken is 1 to 16 (R3)
 abbrev pub sizeTaken : ℕ → Bool
 sizeTaken n = leb 1 n && leb n 16
 
@@ -61,6 +61,6 @@ abbrev pub afterTests : Answer → List Answer → Answer
 afterTests v [] = v
 afterTests v (w ∷ ws) = afterTests (firstOf v w) ws
 
--- "They are tested in the order 1, 2, 3": the answer of a call with these sizes, buffers and places
+-- the answer of a call with these sizes, buffers and places, tested in this order (R4)
 abbrev pub callAnswer : List ℕ → List Lent → List Place → Answer
 callAnswer ns bs ps = afterTests Done (sizeTests 0 ns ++ (bufferTests 0 bs ++ placeTests ps))

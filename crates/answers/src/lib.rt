@@ -1,6 +1,6 @@
 // What a call says, and the tests behind refusals 1 to 3.
 //
-// A function of the layers above asks its tests in document 01's order: then_size for each size,
+// A function of the layers above asks its tests in the order of R4: then_size for each size,
 // then_buffer or then_matrix for each buffer, then_place for the row and the column. Each hands an
 // earlier refusal on, so the first one stays.
 ghost use mathlib.Core.Path.{_≡_};
@@ -23,7 +23,7 @@ pub enum Answer {
     Pivot(usize),
 }
 
-// Document 01's number of the refusal, 0 for done.
+// The number of the refusal (R3), 0 for done.
 pub fn number_of(v: Answer) -> usize
     ensures { λ r. ⌜ r ≡ numberOf v ⌝ }
 {

@@ -1,11 +1,11 @@
-// The work of the decomposition, for callers that have tested size and buffer.
+// The work of the decomposition, for the crates above, which have tested size and buffer; not for
+// users.
 ghost use mathlib.Core.Path.{_≡_};
 ghost use Prim.Native.Nat.{_*_, _≤_};
 ghost use lib.ListN.{length};
 ghost use lib.Ieee.{binary32};
-ghost use Rattle.row_major.specs.Grid.{grid, cell};
-ghost use Rattle.cholesky.specs.Decomposition.{reached, decomposed};
-use crate::columns;
+ghost use Rattle.grids.specs.Grid.{grid, cell};
+ghost use Rattle.factors.specs.Decomposition.{reached, decomposed};
 use crate::upper;
 
 // t becomes its lower factor, and n comes back; or the index of the pivot that is refused.

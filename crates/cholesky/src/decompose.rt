@@ -1,6 +1,6 @@
 // The decomposition, for any caller.
 ghost use lib.Ieee.{binary32};
-ghost use Rattle.cholesky.specs.Promise.{Decomposed};
+ghost use Rattle.factors.specs.Decomposed.{Decomposed};
 use crate::cores;
 use answers::Answer;
 use row_major::gates;

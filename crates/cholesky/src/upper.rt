@@ -2,9 +2,9 @@
 ghost use mathlib.Core.Path.{_≡_};
 ghost use Prim.Native.Nat.{_*_, _<_, _≤_};
 ghost use lib.ListN.{length};
-ghost use Rattle.row_major.specs.Grid.{grid, cell};
-ghost use Rattle.cholesky.specs.Decomposition.{lower};
-ghost use Rattle.cholesky.specs.Steps.{clearColumn};
+ghost use Rattle.grids.specs.Grid.{grid, cell};
+ghost use Rattle.factors.specs.Decomposition.{lower};
+ghost use Rattle.factors.specs.Steps.{clearColumn};
 
 // +0 in column i above the diagonal.
 fn clear_column(n: usize, i: usize, t: &mut [f32])

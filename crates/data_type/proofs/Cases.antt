@@ -13,8 +13,8 @@ use lib.Ieee.Bits.{ofBits-toBits}
 use lib.Ieee.Compare.{differs-from-itself}
 use lib.Ieee.Exact.{HasValue}
 use borrow.Author.Tests.{lt-leb, le-leb}
-use Rattle.data_type.specs.Root.{sqrtOf}
-use Rattle.data_type.specs.Pattern.{rootBits}
+use Rattle.numbers.specs.Root.{sqrtOf}
+use Rattle.numbers.specs.Pattern.{rootBits}
 use Rattle.data_type.proofs.Patterns.{field, digits, digits-lt, base, of-fields, at-ones, subnormal, normal, root-result}
 use Rattle.data_type.proofs.NotNan.{not-nan}
 use Rattle.data_type.proofs.Subnormal.{lift, moved, moved-up}

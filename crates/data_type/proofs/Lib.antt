@@ -1,15 +1,8 @@
--- Laws that belong to no one function: of square roots of whole numbers, of the root of a float, and of whole-number floats.
-pub mod Floor
-pub mod Unique
-pub mod Exists
-pub mod Nearest
+-- Laws of the functions at f32: the digits of a root, the guess, the patterns of a float by its exponent field. The laws over the format are those of `numbers`.
 mod Loop
 mod Guess
 mod NearRoot
-mod Patterns
+pub mod Patterns
 mod Subnormal
 pub mod NotNan
 mod Cases
-pub mod Same
-pub mod Exact
-pub mod Sums

@@ -4,8 +4,8 @@ use Prim.Native.Nat.{ℕ, zero, suc, _+_, _*_, _/_, _^_, _≤_, _<_}
 use native.Mathlib.Nat.{le-of-lt, lt-of-lt-of-le, lt-of-le-of-lt, zero-add, mul-le-mul-left, pow-succ'}
 use native.Mathlib.Omega.{arith}
 use lib.Pow.{pow-add, pow-pos, pow-mono, shl-lt}
-use Rattle.data_type.specs.Root.{sq}
-use Rattle.data_type.proofs.Floor.{Floor}
+use Rattle.numbers.specs.Root.{sq}
+use Rattle.numbers.proofs.Floor.{Floor}
 
 -- i digits are still to be found, the next of weight b: r is the root from below, and within 2 ^ i of it
 pub record Turn (p n r b : ℕ) : Type 0 where

@@ -7,10 +7,10 @@ use lib.Pow.{pow-add, pow-pos}
 use lib.Ieee.{Format, prec, hid}
 use lib.Ieee.Fits.{two, two-le-pos}
 use borrow.Author.Tests.{lt-ltb, le-ltb}
-use Rattle.data_type.specs.Root.{sq, nearRoot}
-use Rattle.data_type.specs.Pattern.{rootBits}
-use Rattle.data_type.proofs.Floor.{Floor, sq-half, near-of-floor, Near, near-is}
-use Rattle.data_type.proofs.Exists.{wide, half, wide-least, wide-most}
+use Rattle.numbers.specs.Root.{sq, nearRoot}
+use Rattle.numbers.specs.Pattern.{rootBits}
+use Rattle.numbers.proofs.Floor.{Floor, sq-half, near-of-floor, Near, near-is}
+use Rattle.numbers.proofs.Exists.{wide, half, wide-least, wide-most}
 
 -- r is the whole part: 4n is below (2r + 1)² exactly where n - r² is at most r
 pub near-stay : (p n r : ℕ) → n < 2 ^ (p + p) → Floor n r → n - r * r ≤ r → r ≡ nearRoot p n

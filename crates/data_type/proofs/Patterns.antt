@@ -11,10 +11,10 @@ use lib.Ieee.{Float, nan, inf, fin, Format, binary32, binary64, prec, emax, low,
 use lib.Ieee.Bits.{ofBits-fits, nanBits-is}
 use lib.Ieee.Exact.{HasValue, odd-sign, units-val}
 use borrow.Author.Tests.{lt-leb, ne-eqb}
-use Rattle.data_type.specs.Root.{nearRoot, rootOf, sqrtOf}
-use Rattle.data_type.specs.Pattern.{rootBits}
-use Rattle.data_type.proofs.Same.{same-value}
-use Rattle.data_type.proofs.Exists.{wide, half, root-of-digits, sqrt-at, units-fit}
+use Rattle.numbers.specs.Root.{nearRoot, rootOf, sqrtOf}
+use Rattle.numbers.specs.Pattern.{rootBits}
+use Rattle.numbers.proofs.Same.{same-value}
+use Rattle.numbers.proofs.Exists.{wide, half, root-of-digits, sqrt-at, units-fit}
 use Rattle.data_type.proofs.NearRoot.{near-digits, bits-is}
 
 -- ---- the fields, as the code reads them: the exponent's, and the digits below the leading one

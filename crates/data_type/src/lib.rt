@@ -1,7 +1,7 @@
 // Numbers: the reciprocal and the square root of an f32.
 ghost use mathlib.Core.Path.{_≡_};
 ghost use lib.Ieee.{binary32};
-ghost use Rattle.data_type.specs.Reciprocal.{recipOf};
+ghost use Rattle.numbers.specs.Reciprocal.{recipOf};
 
 mod root;
 

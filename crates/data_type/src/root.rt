@@ -2,8 +2,8 @@
 ghost use mathlib.Core.Path.{_≡_};
 ghost use Prim.Native.Nat.{_+_, _*_, _≤_, _<_};
 ghost use lib.Ieee.{binary32};
-ghost use Rattle.data_type.specs.Root.{nearRoot, sqrtOf};
-ghost use Rattle.data_type.specs.Pattern.{rootBits};
+ghost use Rattle.numbers.specs.Root.{nearRoot, sqrtOf};
+ghost use Rattle.numbers.specs.Pattern.{rootBits};
 
 // The whole part of the root of n, which has 48 binary digits at most: a digit at a time, from the
 // highest of 24 down.

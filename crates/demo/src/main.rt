@@ -1,13 +1,10 @@
 // A feeder's shift: eighteen readings of a yarn's tension, one of which is lost on the wire and one
 // of which is refused. Writes a line for each step, and then what became of the readings.
-mod feeder;
-mod hundredths;
-mod shift;
 mod table;
-mod tally;
+mod work;
 
 fn main() {
     table::head();
-    let t = tally::run();
+    let t = work::run();
     table::foot(t);
 }

@@ -1,15 +1,14 @@
 // What the program writes.
 ghost use mathlib.Core.Path.{_≡_};
-use crate::feeder;
-use crate::feeder::Feeder;
-use crate::feeder::Outcome;
-use crate::feeder::Step;
-use crate::hundredths::Hundredths;
-use crate::hundredths::in_hundredths;
-use crate::shift::Reading;
-use crate::tally::Tally;
 use answers::Answer;
+use feeder::Feeder;
+use hundredths::Hundredths;
+use hundredths::in_hundredths;
 use libc::STDOUT_FILENO;
+use shift::Outcome;
+use shift::Reading;
+use shift::Step;
+use shift::Tally;
 
 // Words.
 fn text(words: &[u8]) {

@@ -1,10 +1,10 @@
-// The work of the inverse, for callers that have tested size and buffers.
+// The work of the inverse, for the crates above, which have tested size and buffers; not for users.
 ghost use mathlib.Core.Path.{_≡_};
 ghost use Prim.Native.Nat.{_*_, _≤_};
 ghost use lib.ListN.{length};
 ghost use lib.Ieee.{binary32};
-ghost use Rattle.row_major.specs.Grid.{grid, cell};
-ghost use Rattle.inverse.specs.Inverse.{inverse};
+ghost use Rattle.grids.specs.Grid.{grid, cell};
+ghost use Rattle.factors.specs.Inverse.{inverse};
 use crate::first_pass;
 use crate::second_pass;
 

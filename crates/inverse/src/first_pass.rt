@@ -3,9 +3,8 @@ ghost use mathlib.Core.Path.{_≡_};
 ghost use Prim.Native.Nat.{_+_, _*_, _<_, _≤_};
 ghost use lib.ListN.{length};
 ghost use lib.Ieee.{binary32};
-ghost use Rattle.row_major.specs.Grid.{grid, cell};
-ghost use Rattle.inverse.specs.Inverse.{unitAt, solveColumn, solved};
-use crate::dots;
+ghost use Rattle.grids.specs.Grid.{grid, cell};
+ghost use Rattle.factors.specs.Inverse.{unitAt, solveColumn, solved};
 
 // The entry (i, j) of the identity.
 fn unit(i: usize, j: usize) -> f32
@@ -22,7 +21,7 @@ fn solve_column(n: usize, i: usize, l: &[f32], inv: &mut [f32])
     let d = data_type::recip(l[i * n + i]);
     let mut j: usize = 0;
     while j <= i {
-        let sum = dots::plus_dot(unit(i, j), l, i * n + j, 1, inv, j * n + j, i - j);
+        let sum = inner_sums::plus_dot(unit(i, j), l, i * n + j, 1, inv, j * n + j, i - j);
         inv[j * n + i] = sum * d;
         j += 1;
     }

@@ -1,6 +1,6 @@
 // Refusals 1 and 2 for two square matrices.
 ghost use mathlib.Core.Path.{_≡_};
-ghost use Rattle.inverse.specs.Promise.{squaresAnswer};
+ghost use Rattle.factors.specs.Inverted.{squaresAnswer};
 use answers::Answer;
 
 // The answer for two n by n matrices in buffers of la and lb numbers.

@@ -1,6 +1,6 @@
 // The inverse, for any caller.
 ghost use lib.Ieee.{binary32};
-ghost use Rattle.inverse.specs.Promise.{Inverted};
+ghost use Rattle.factors.specs.Inverted.{Inverted};
 use crate::cores;
 use crate::gates;
 use answers::Answer;

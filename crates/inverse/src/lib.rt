@@ -1,6 +1,5 @@
 // The inverse of a matrix from its lower Cholesky factor.
 pub mod cores;
-mod dots;
 mod first_pass;
 mod gates;
 mod invert;

@@ -3,9 +3,8 @@ ghost use mathlib.Core.Path.{_≡_};
 ghost use Prim.Native.Nat.{_+_, _*_, _<_, _≤_};
 ghost use lib.ListN.{length};
 ghost use lib.Ieee.{binary32};
-ghost use Rattle.row_major.specs.Grid.{grid, cell};
-ghost use Rattle.inverse.specs.Inverse.{backColumn, back};
-use crate::dots;
+ghost use Rattle.grids.specs.Grid.{grid, cell};
+ghost use Rattle.factors.specs.Inverse.{backColumn, back};
 
 // Column i and row i, to the diagonal.
 fn back_column(n: usize, i: usize, l: &[f32], inv: &mut [f32])
@@ -15,7 +14,7 @@ fn back_column(n: usize, i: usize, l: &[f32], inv: &mut [f32])
     let d = data_type::recip(l[i * n + i]);
     let mut j: usize = 0;
     while j <= i {
-        let sum = dots::plus_dot(
+        let sum = inner_sums::plus_dot(
             inv[j * n + i],
             l,
             i * n + n + i,

@@ -1,6 +1,6 @@
 // The prediction of the regular filter, over lent buffers: x = A·x, P = A·P·Aᵀ + Q.
-pub mod cores;
-mod gates;
+//
+// Each public function asks its gate, and has its work done by `predictions` where the gate says done.
 mod regular;
 
 pub use regular::predict;

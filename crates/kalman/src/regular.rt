@@ -1,17 +1,15 @@
 // The predictions: of x, of P, and of both.
 ghost use lib.Ieee.{binary32};
-ghost use Rattle.kalman.specs.Promise.{PredictedX, PredictedP, Predicted};
-use crate::cores;
-use crate::gates;
+ghost use Rattle.filters.specs.Predicted.{PredictedX, PredictedP, Predicted};
 use answers::Answer;
 
 // x becomes A·x, which predicted_x holds too.
 pub fn predict_x(n: usize, x: &mut [f32], a: &[f32], predicted: &mut [f32]) -> Answer
     ensures { λ v. ⌜ PredictedX binary32 n (now (x .entry)) (now (a .entry)) (now (predicted .entry)) v (now (x .exit)) (now (predicted .exit)) ⌝ }
 {
-    let v = gates::of_x(n, x.len(), a.len(), predicted.len());
+    let v = prediction_gates::of_x(n, x.len(), a.len(), predicted.len());
     if answers::is_done(v) {
-        cores::predict_x_cells(n, x, a, predicted);
+        predictions::predict_x_cells(n, x, a, predicted);
     }
     v
 }
@@ -20,9 +18,9 @@ pub fn predict_x(n: usize, x: &mut [f32], a: &[f32], predicted: &mut [f32]) -> A
 pub fn predict_p(n: usize, a: &[f32], p: &mut [f32], q: &[f32], temp: &mut [f32]) -> Answer
     ensures { λ v. ⌜ PredictedP binary32 n (now (a .entry)) (now (p .entry)) (now (q .entry)) (now (temp .entry)) v (now (p .exit)) (now (temp .exit)) ⌝ }
 {
-    let v = gates::of_p(n, a.len(), p.len(), q.len(), temp.len());
+    let v = prediction_gates::of_p(n, a.len(), p.len(), q.len(), temp.len());
     if answers::is_done(v) {
-        cores::predict_p_cells(n, a, p, q, temp);
+        predictions::predict_p_cells(n, a, p, q, temp);
     }
     v
 }
@@ -39,7 +37,7 @@ pub fn predict(
 ) -> Answer
     ensures { λ v. ⌜ Predicted binary32 n (now (x .entry)) (now (a .entry)) (now (p .entry)) (now (q .entry)) (now (predicted .entry)) (now (temp .entry)) v (now (x .exit)) (now (p .exit)) (now (predicted .exit)) (now (temp .exit)) ⌝ }
 {
-    let v = gates::of_both(
+    let v = prediction_gates::of_both(
         n,
         x.len(),
         a.len(),
@@ -49,8 +47,8 @@ pub fn predict(
         temp.len(),
     );
     if answers::is_done(v) {
-        cores::predict_x_cells(n, x, a, predicted);
-        cores::predict_p_cells(n, a, p, q, temp);
+        predictions::predict_x_cells(n, x, a, predicted);
+        predictions::predict_p_cells(n, a, p, q, temp);
     }
     v
 }

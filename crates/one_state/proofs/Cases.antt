@@ -4,10 +4,11 @@ use mathlib.Core.Bool.{Bool, true, false, cond}
 use Prim.Native.Nat.{ℕ}
 use native.Mathlib.Omega.{arith}
 use lib.Ieee.{Float, Format, binary32}
-use Rattle.data_type.specs.Reciprocal.{recipOf}
-use Rattle.data_type.specs.Root.{sqrtOf}
-use Rattle.cholesky.specs.declared.Pivot.the-variants as pivot
-use Rattle.cholesky.specs.Pivots.{pivotTaken, pivotOf}
+use Rattle.numbers.specs.Reciprocal.{recipOf}
+use Rattle.numbers.specs.Root.{sqrtOf}
+use Rattle.pivots.specs.declared.Pivot.the-variants as pivot
+use Rattle.factors.specs.Pivots.{pivotTaken}
+use Rattle.pivots.specs.Pivots.{pivotOf}
 use Rattle.one_state.specs.declared.OneState.{OneState}
 use Rattle.one_state.specs.declared.Corrected.the-variants.{Accepted, Refused}
 use Rattle.one_state.specs.OneState.{spread, renewed, corrected}

@@ -13,30 +13,27 @@ use Rattle.answers.specs.declared.Answer.the-variants.{Done, Pivot}
 use Rattle.answers.specs.Answers.{isDone, settled}
 use Rattle.answers.specs.Tests.{lent}
 use Rattle.answers.proofs.Fit.{fit}
-use Rattle.data_type.specs.Root.{sqrtOf}
-use Rattle.data_type.specs.Sums.{sumFrom}
-use Rattle.row_major.specs.Grid.{cell, run, grid}
-use Rattle.row_major.proofs.Grids.{run-cell, grid-cell}
-use Rattle.products.specs.Entries.{numbers}
-use Rattle.cholesky.specs.Pivots.{pivotTaken}
-use Rattle.cholesky.specs.Decomposition.{lessDot, factor, firstNot, decomposed}
-use Rattle.cholesky.specs.Promise.{pivotAnswer}
-use Rattle.inverse.specs.Inverse.{plusSum, solved, back}
-use Rattle.kalman.specs.Prediction as general
-use Rattle.kalman.specs.Promise.{predictAnswer, Predicted}
-use Rattle.observations.specs.Correction.{innovationOf, residualOf, gainOf, newX, newP}
-use Rattle.observations.specs.Lent.{Buffers, correctAnswer}
-use Rattle.observations.specs.Promise as observations
+use Rattle.numbers.specs.Root.{sqrtOf}
+use Rattle.numbers.specs.Sums.{sumFrom}
+use Rattle.grids.specs.Grid.{cell, run, grid}
+use Rattle.grids.proofs.Grids.{run-cell, grid-cell}
+use Rattle.entries.specs.Entries.{numbers}
+use Rattle.factors.specs.Pivots.{pivotTaken}
+use Rattle.factors.specs.Decomposition.{lessDot, factor, firstNot, decomposed}
+use Rattle.factors.specs.Decomposed.{pivotAnswer}
+use Rattle.factors.specs.Inverse.{plusSum, solved, back}
+use Rattle.filters.specs.Prediction as general
+use Rattle.filters.specs.Predicted.{predictAnswer, Predicted}
+use Rattle.filters.specs.Correction.{innovationOf, residualOf, gainOf, newX, newP}
+use Rattle.filters.specs.Lent.{Buffers, correctAnswer}
+use Rattle.filters.specs.Corrected as observations
 use Rattle.one_state.specs.declared.OneState.{OneState}
 use Rattle.one_state.specs.declared.Corrected.the-variants.{Accepted, Refused}
 use Rattle.one_state.specs.OneState.{timed, inverted, predictedX, predictedP, innovation, spread, gain, correctedX, correctedP, predicted, corrected}
+use Rattle.one_state.specs.General.{front, Agrees}
 use Rattle.one_state.proofs.Cases.{accepted, refused}
 
 -- ---- buffers of one number
-
--- the number in front
-abbrev pub front : List Float → Float
-front l = getD l 0 nan
 
 -- the number that a call that is done wrote, as a vector of one and as a matrix of one cell
 run-first : (v : Answer) (g : ℕ → Float) (l l' : List Float) → isDone v ≡ true → 1 ≤ length l → l' ≡ settled v (run 0 1 g l) l → front l' ≡ g 0
@@ -152,19 +149,6 @@ module _ (f : Format) (b : Buffers) (v : Answer) (e : Buffers) (call : observati
     p-stays = call .renewed .P-after ∙ rw refused-0
 
 -- ---- the correction of a record
-
--- s with another x and p
-abbrev pub withXP : OneState → Float → Float → OneState
-withXP s x p = record { x = x; p = p; a = s .a; q = s .q; h = s .h; r = s .r }
-
--- A general correction at n = m = 1 of the buffers b, which answers v and leaves e, agrees with the correction of the record s by the reading z.
-pub record Agrees (s : OneState) (z : Float) (b : Buffers) (v : Answer) (e : Buffers) : Type 0 where
-  -- where it is done the record comes back accepted, with the x and p that stand in front of its buffers, and no other member changed
-  pub done : isDone v ≡ true → corrected s z ≡ Accepted (withXP s (front (e .x)) (front (e .P)))
-  -- where it is refused with 4 the pivot is 0, the record comes back refused and unchanged, and so are x and P
-  pub pivot : (i : ℕ) → v ≡ Pivot i → (i ≡ 0) × (corrected s z ≡ Refused s 0) × (e .x ≡ b .x) × (e .P ≡ b .P)
-  -- it answers nothing else
-  pub only : (v ≡ Done) ⊎ (v ≡ Pivot 0)
 
 -- The correction: where a record's numbers and the reading stand in front of the buffers, of any lengths, a general correction that is not refused with 1 or 2 agrees.
 pub correct-agrees :

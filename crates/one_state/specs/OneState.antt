@@ -1,10 +1,12 @@
--- The one-state filter (document 01, "One-state filter"), in the general filter's order of operations at n = m = 1. Definitions only.
+-- The filter of one yarn (R21), in the general filter's order of operations at n = m = 1. Definitions only.
 use mathlib.Core.Bool.{cond}
 use lib.Ieee.{Float, Format, binary32, add, sub, mul}
-use Rattle.data_type.specs.Reciprocal.{one, recipOf}
-use Rattle.data_type.specs.Root.{sqrtOf}
-use Rattle.data_type.specs.Sums.{plus0}
-use Rattle.cholesky.specs.Pivots.{pivotTaken}
+use Rattle.answers.specs.declared.Answer.{Answer}
+use Rattle.answers.specs.declared.Answer.the-variants.{Done, Pivot}
+use Rattle.numbers.specs.Reciprocal.{one, recipOf}
+use Rattle.numbers.specs.Root.{sqrtOf}
+use Rattle.numbers.specs.Sums.{plus0}
+use Rattle.factors.specs.Pivots.{pivotTaken}
 use Rattle.one_state.specs.declared.OneState.{OneState}
 use Rattle.one_state.specs.declared.Corrected.{Corrected}
 use Rattle.one_state.specs.declared.Corrected.the-variants.{Accepted, Refused}
@@ -33,7 +35,7 @@ innovation f h x z = sub f z (mul f h x)
 abbrev pub spread : Format → Float → Float → Float → Float
 spread f h p r = add f (timed f (timed f h p) h) r
 
--- The inverse of S from its root l: "(1/l)·(1/l), rounded twice", with the first pass's 1 before it.
+-- The inverse of S from its root l: a product of two reciprocals, with the first pass's 1 before it.
 abbrev pub inverted : Format → Float → Float
 inverted f l = mul f (mul f one (recipOf f l)) (recipOf f l)
 
@@ -58,6 +60,20 @@ abbrev pub renewed : OneState → Float → OneState
 renewed s z =
     record { x = correctedX binary32 (s .x) (s .p) (s .h) (s .r) z; p = correctedP binary32 (s .p) (s .h) (s .r); a = s .a; q = s .q; h = s .h; r = s .r }
 
--- "Refusal 4 hands the record back unchanged with pivot index 0."
+-- a pivot that is refused hands the record back as it was, with index 0
 unfoldable pub corrected : OneState → Float → Corrected
 corrected s z = cond (pivotTaken (spread binary32 (s .h) (s .p) (s .r))) (Accepted (renewed s z)) (Refused s 0)
+
+-- s with another x and p
+abbrev pub withXP : OneState → Float → Float → OneState
+withXP s x p = record { x = x; p = p; a = s .a; q = s .q; h = s .h; r = s .r }
+
+-- ---- what a correction says: refusal 4 and the pivot's index, or done; and the record that it hands back
+
+abbrev pub answerOf : Corrected → Answer
+answerOf (Accepted s) = Done
+answerOf (Refused s i) = Pivot i
+
+abbrev pub handedBack : Corrected → OneState
+handedBack (Accepted s) = s
+handedBack (Refused s i) = s

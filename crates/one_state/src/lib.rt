@@ -2,7 +2,7 @@
 // filter's does, so −0 becomes +0.
 ghost use mathlib.Core.Path.{_≡_};
 ghost use Rattle.one_state.specs.OneState.{predicted, corrected};
-use cholesky::Pivot;
+use pivots::Pivot;
 
 // Tension on one yarn: the estimate x and its spread p, the model a and q, the reading's h and r.
 pub struct OneState {
@@ -47,7 +47,7 @@ impl OneState {
         let h = self.h;
         let hp = 0.0 + h * p;
         let hph = 0.0 + hp * h;
-        match cholesky::pivot_of(hph + self.r) {
+        match pivots::pivot_of(hph + self.r) {
             Pivot::Accepted(_, d) => {
                 // S⁻¹, from the reciprocal d of S's root
                 let inverse = 1.0 * d * d;

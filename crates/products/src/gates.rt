@@ -1,9 +1,10 @@
 // Refusals 1 and 2 of the products.
 ghost use mathlib.Core.Path.{_≡_};
-ghost use Rattle.products.specs.Answers.{productAnswer, bufferedAnswer, transposedAnswer, rowAnswer};
+ghost use Rattle.entries.specs.Answers.{productAnswer, rowAnswer};
 use answers::Answer;
 
-// The answer for a of rows by inner, b of inner by cols and c of rows by cols.
+// The answer for a of rows by inner, b of inner by cols, or of cols by inner, which is as many
+// numbers, and c of rows by cols.
 pub fn product(rows: usize, inner: usize, cols: usize, la: usize, lb: usize, lc: usize) -> Answer
     ensures { λ v. ⌜ v ≡ productAnswer rows inner cols la lb lc ⌝ }
 {
@@ -12,33 +13,6 @@ pub fn product(rows: usize, inner: usize, cols: usize, la: usize, lb: usize, lc:
     let sizes = answers::then_size(inner_taken, 2, cols);
     let left = answers::then_matrix(sizes, 0, rows, inner, la);
     let right = answers::then_matrix(left, 1, inner, cols, lb);
-    answers::then_matrix(right, 2, rows, cols, lc)
-}
-
-// The same with an auxiliary of inner numbers.
-pub fn buffered(
-    rows: usize,
-    inner: usize,
-    cols: usize,
-    la: usize,
-    lb: usize,
-    lc: usize,
-    lx: usize,
-) -> Answer
-    ensures { λ v. ⌜ v ≡ bufferedAnswer rows inner cols la lb lc lx ⌝ }
-{
-    answers::then_buffer(product(rows, inner, cols, la, lb, lc), 3, inner, lx)
-}
-
-// The answer for a of rows by inner, b of cols by inner and c of rows by cols.
-pub fn transposed(rows: usize, inner: usize, cols: usize, la: usize, lb: usize, lc: usize) -> Answer
-    ensures { λ v. ⌜ v ≡ transposedAnswer rows inner cols la lb lc ⌝ }
-{
-    let rows_taken = answers::then_size(Answer::Done, 0, rows);
-    let inner_taken = answers::then_size(rows_taken, 1, inner);
-    let sizes = answers::then_size(inner_taken, 2, cols);
-    let left = answers::then_matrix(sizes, 0, rows, inner, la);
-    let right = answers::then_matrix(left, 1, cols, inner, lb);
     answers::then_matrix(right, 2, rows, cols, lc)
 }
 

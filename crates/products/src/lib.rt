@@ -1,8 +1,6 @@
 // Products of matrices that lent buffers hold, row-major.
 //
-// Each public function asks its gate, and does the work of its core where the gate says done.
-pub mod cores;
-mod fours;
+// Each public function asks its gate, and has its family's work done where the gate says done.
 mod gates;
 mod plain;
 mod rowvector;

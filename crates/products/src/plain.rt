@@ -1,7 +1,6 @@
 // a·b, with and without an auxiliary buffer.
 ghost use lib.Ieee.{binary32};
-ghost use Rattle.products.specs.Products.{Multiplied, Buffered};
-use crate::cores;
+ghost use Rattle.entries.specs.Products.{Multiplied, Buffered};
 use crate::gates;
 use answers::Answer;
 
@@ -11,7 +10,7 @@ pub fn mult(rows: usize, inner: usize, cols: usize, a: &[f32], b: &[f32], c: &mu
 {
     let v = gates::product(rows, inner, cols, a.len(), b.len(), c.len());
     if answers::is_done(v) {
-        cores::mult_cells(rows, inner, cols, a, b, c);
+        times_matrix::mult_cells(rows, inner, cols, a, b, c);
     }
     v
 }
@@ -28,10 +27,11 @@ pub fn mult_buffered(
 ) -> Answer
     ensures { λ v. ⌜ Buffered binary32 rows inner cols (now (a .entry)) (now (b .entry)) (now (c .entry)) (now (aux .entry)) v (now (c .exit)) (now (aux .exit)) ⌝ }
 {
-    let v = gates::buffered(rows, inner, cols, a.len(), b.len(), c.len(), aux.len());
+    let matrices = gates::product(rows, inner, cols, a.len(), b.len(), c.len());
+    let v = answers::then_buffer(matrices, 3, inner, aux.len());
     if answers::is_done(v) {
-        cores::mult_cells(rows, inner, cols, a, b, c);
-        row_major::cores::copy_column(inner, cols, b, 0, aux);
+        times_matrix::mult_cells(rows, inner, cols, a, b, c);
+        cells::cores::copy_column(inner, cols, b, 0, aux);
     }
     v
 }

@@ -1,7 +1,6 @@
 // a·x, a matrix times a vector: stored, or added to c.
 ghost use lib.Ieee.{binary32};
-ghost use Rattle.products.specs.Products.{RowMultiplied, RowAdded};
-use crate::cores;
+ghost use Rattle.entries.specs.Products.{RowMultiplied, RowAdded};
 use crate::gates;
 use answers::Answer;
 
@@ -11,7 +10,7 @@ pub fn mult_rowvector(rows: usize, inner: usize, a: &[f32], x: &[f32], c: &mut [
 {
     let v = gates::row(rows, inner, a.len(), x.len(), c.len());
     if answers::is_done(v) {
-        cores::rowvector_cells(rows, inner, a, x, c);
+        times_vector::rowvector_cells(rows, inner, a, x, c);
     }
     v
 }
@@ -22,7 +21,7 @@ pub fn multadd_rowvector(rows: usize, inner: usize, a: &[f32], x: &[f32], c: &mu
 {
     let v = gates::row(rows, inner, a.len(), x.len(), c.len());
     if answers::is_done(v) {
-        cores::rowvector_add_cells(rows, inner, a, x, c);
+        times_vector::rowvector_add_cells(rows, inner, a, x, c);
     }
     v
 }

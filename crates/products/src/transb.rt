@@ -1,7 +1,6 @@
 // a·bᵀ: stored, added to c, or scaled.
 ghost use lib.Ieee.{binary32};
-ghost use Rattle.products.specs.Products.{MultipliedT, AddedT, ScaledT};
-use crate::cores;
+ghost use Rattle.entries.specs.Products.{MultipliedT, AddedT, ScaledT};
 use crate::gates;
 use answers::Answer;
 
@@ -16,9 +15,9 @@ pub fn mult_transb(
 ) -> Answer
     ensures { λ v. ⌜ MultipliedT binary32 rows inner cols (now (a .entry)) (now (b .entry)) (now (c .entry)) v (now (c .exit)) ⌝ }
 {
-    let v = gates::transposed(rows, inner, cols, a.len(), b.len(), c.len());
+    let v = gates::product(rows, inner, cols, a.len(), b.len(), c.len());
     if answers::is_done(v) {
-        cores::transb_cells(rows, inner, cols, a, b, c);
+        times_transpose::transb_cells(rows, inner, cols, a, b, c);
     }
     v
 }
@@ -34,9 +33,9 @@ pub fn multadd_transb(
 ) -> Answer
     ensures { λ v. ⌜ AddedT binary32 rows inner cols (now (a .entry)) (now (b .entry)) (now (c .entry)) v (now (c .exit)) ⌝ }
 {
-    let v = gates::transposed(rows, inner, cols, a.len(), b.len(), c.len());
+    let v = gates::product(rows, inner, cols, a.len(), b.len(), c.len());
     if answers::is_done(v) {
-        cores::transb_add_cells(rows, inner, cols, a, b, c);
+        times_transpose::transb_add_cells(rows, inner, cols, a, b, c);
     }
     v
 }
@@ -53,9 +52,9 @@ pub fn multscale_transb(
 ) -> Answer
     ensures { λ v. ⌜ ScaledT binary32 rows inner cols (now (a .entry)) (now (b .entry)) scale (now (c .entry)) v (now (c .exit)) ⌝ }
 {
-    let v = gates::transposed(rows, inner, cols, a.len(), b.len(), c.len());
+    let v = gates::product(rows, inner, cols, a.len(), b.len(), c.len());
     if answers::is_done(v) {
-        cores::transb_scale_cells(rows, inner, cols, a, b, scale, c);
+        times_transpose::transb_scale_cells(rows, inner, cols, a, b, scale, c);
     }
     v
 }

@@ -1,5 +1,5 @@
--- The premise of demand 3 can be met, also where the absolute terms sum to 16,777,216 itself: for n = 2, a prediction with a refused call before it and one after it.
--- A, P and Q are document 01's, x = [16777215 1]. The refused calls are a prediction of 17 states and a correction by 0 observations. Assumes nothing.
+-- The premise of R23 and R24 can be met, also where the absolute terms sum to 16,777,216 itself: for n = 2, a prediction with a refused call before it and one after it.
+-- A, P and Q are those of the checked examples, x = [16777215 1]. The refused calls are a prediction of 17 states and a correction by 0 observations. Assumes nothing.
 use mathlib.Core.Path.{_≡_, refl}
 use mathlib.Core.Bool.{true, false}
 use mathlib.Core.List.{List, [], _∷_, map}
@@ -10,17 +10,17 @@ use lib.ListN.{getD}
 use lib.Ieee.{Float, Format, binary32, binary64, prec, ofInt}
 use lib.Ieee.Back.{round-whole}
 use Rattle.answers.specs.declared.Answer.the-variants.{Done, Size}
-use Rattle.data_type.specs.Whole.{Whole, sumℤ, absSum}
-use Rattle.row_major.specs.Grid.{run, grid}
-use Rattle.products.specs.Entries.{numbers}
-use Rattle.kalman.specs.Prediction.{predictedX, tempP, predictedP}
-use Rattle.kalman.specs.Promise.{Predicted, predictAnswer}
-use Rattle.observations.specs.Lent.{Buffers, correctAnswer}
-use Rattle.observations.specs.Promise.{Corrected}
-use Rattle.promises.specs.Formulas.{Matrix, Numbers, Step, both, exactly}
-use Rattle.promises.specs.Runs.{State, state, end, predict}
-use Rattle.promises.specs.Demand3.{limit, WholeRun, AllUnitUpper}
-use Rattle.promises.proofs.Demand3.{demand3}
+use Rattle.numbers.specs.Whole.{Whole, sumℤ, absSum}
+use Rattle.grids.specs.Grid.{run, grid}
+use Rattle.entries.specs.Entries.{numbers}
+use Rattle.filters.specs.Prediction.{predictedX, tempP, predictedP}
+use Rattle.filters.specs.Predicted.{Predicted, predictAnswer}
+use Rattle.filters.specs.Lent.{Buffers, correctAnswer}
+use Rattle.filters.specs.Corrected.{Corrected}
+use Rattle.promises.specs.Formulas.{Matrix, Spreading, exactX}
+use Rattle.promises.specs.Runs.{State, state, HoldsMatrix, Run, end, predict}
+use Rattle.promises.specs.WholeNumbers.{limit, WholeX, WholeP, AllUnitUpper}
+use Rattle.promises.proofs.WholeNumbers.{whole-numbers}
 use Rattle.promises.proofs.Refused.{refused-predict-in-a-run, refused-correction-in-a-run}
 
 -- a whole number as a float
@@ -91,35 +91,43 @@ after = record {
   renewed = record { answer = refl; HP-after = refl; S-after = refl; S-inv-after = refl; PHt-after = refl; K-after = refl; x-after = refl; KHP-after = refl; P-after = refl };
 }
 
-abbrev w : Numbers
-w = record { x = λ r. getD x r (pos 0); P = entries p }
+-- the As, and the As and Qs, of the run
+abbrev ms : List Matrix
+ms = entries a ∷ []
 
-abbrev steps : List Step
-steps = both (entries a) (entries q) ∷ []
+abbrev ss : List Spreading
+ss = record { a = entries a; q = entries q } ∷ []
 
-pub premise-met : WholeRun binary32 2 steps start (state x' P') w
+whole-A : HoldsMatrix 2 (floats a) (entries a)
+whole-A = four _ (int-whole binary32 (pos 1) (omega arith)) (int-whole binary32 (pos 1) (omega arith)) (int-whole binary32 (pos 0) (omega arith)) (int-whole binary32 (pos 1) (omega arith))
+
+went : Run binary32 2 ms ss start (state x' P')
+went = refused-predict-in-a-run (Size 0) before refl (predict call refl whole-A
+    (four _ (int-whole binary32 (pos 1) (omega arith)) (int-whole binary32 (pos 0) (omega arith)) (int-whole binary32 (pos 0) (omega arith)) (int-whole binary32 (pos 1) (omega arith)))
+    (refused-correction-in-a-run (Size 1) after refl end))
+
+pub premise-met-x : WholeX binary32 2 ms ss start (state x' P') (λ r. getD x r (pos 0))
 unfolding absSum sumℤ
-premise-met = record {
-  start = record {
-    x = two _ (int-whole binary32 (pos 16777215) (omega arith)) (int-whole binary32 (pos 1) (omega arith));
-    P = four _ (int-whole binary32 (pos 2) (omega arith)) (int-whole binary32 (pos 1) (omega arith)) (int-whole binary32 (pos 1) (omega arith)) (int-whole binary32 (pos 3) (omega arith));
-  };
-  run = refused-predict-in-a-run before refl (predict call refl
-      (four _ (int-whole binary32 (pos 1) (omega arith)) (int-whole binary32 (pos 1) (omega arith)) (int-whole binary32 (pos 0) (omega arith)) (int-whole binary32 (pos 1) (omega arith)))
-      (four _ (int-whole binary32 (pos 1) (omega arith)) (int-whole binary32 (pos 0) (omega arith)) (int-whole binary32 (pos 0) (omega arith)) (int-whole binary32 (pos 1) (omega arith)))
-      (refused-correction-in-a-run after refl end));
-  small = (
-    (two _ (omega arith) (omega arith), record { of-A·P = four _ (omega arith) (omega arith) (omega arith) (omega arith); of-A·P·Aᵀ+Q = four _ (omega arith) (omega arith) (omega arith) (omega arith) }),
-    tt,
-  );
+premise-met-x = record {
+  run = went;
+  start = two _ (int-whole binary32 (pos 16777215) (omega arith)) (int-whole binary32 (pos 1) (omega arith));
+  small = (two _ (omega arith) (omega arith), tt);
 }
 
--- what demand 3 says of it
-pub first-entry : Whole (numbers x' 0) (pos 16777216)
-unfolding exactly sumℤ
-first-entry = demand3 binary32 .exact 2 steps start (state x' P') w premise-met .x 0 (omega arith)
+pub premise-met-P : WholeP binary32 2 ms ss start (state x' P') (entries p)
+unfolding absSum sumℤ
+premise-met-P = record {
+  run = went;
+  start = four _ (int-whole binary32 (pos 2) (omega arith)) (int-whole binary32 (pos 1) (omega arith)) (int-whole binary32 (pos 1) (omega arith)) (int-whole binary32 (pos 3) (omega arith));
+  small = (record { of-A·P = four _ (omega arith) (omega arith) (omega arith) (omega arith); of-A·P·Aᵀ+Q = four _ (omega arith) (omega arith) (omega arith) (omega arith) }, tt);
+}
 
-pub unit-upper-met : AllUnitUpper 2 steps
+-- what R23 says of it
+pub first-entry : Whole (numbers x' 0) (pos 16777216)
+unfolding exactX sumℤ
+first-entry = whole-numbers binary32 .exact-x 2 ms ss start (state x' P') (λ r. getD x r (pos 0)) premise-met-x 0 (omega arith)
+
+pub unit-upper-met : AllUnitUpper 2 ms
 unit-upper-met = (record { diagonal = two _ refl refl; below = under }, tt)
   where
     under : (r c : ℕ) → r < 2 → c < r → entries a r c ≡ pos 0

@@ -1,4 +1,4 @@
--- A run of predictions on whole numbers is exact. Each entry is a sum of products, which `data_type` shows exact once over the length; a run goes call by call.
+-- A run of predictions on whole numbers is exact. Each entry is a sum of products, which `numbers` shows exact once over the length; a run goes call by call.
 -- Assumes nothing.
 use mathlib.Core.Path.{_≡_, sym, ap, _∙_, subst}
 use mathlib.Core.List.{List}
@@ -9,16 +9,16 @@ use native.Mathlib.Omega.{arith}
 use lib.IntN.{ℤ, pos, natAbs, _+ℤ_}
 use lib.ListN.{length, getD, List·getD-eq-default}
 use lib.Ieee.{Float, Format, nan, add}
-use Rattle.data_type.specs.Sums.{sumFirst, products}
-use Rattle.data_type.specs.Whole.{Whole, sumℤ, absSum, productsℤ}
-use Rattle.data_type.proofs.Exact.{add-whole, dot-from-zero, dot-from-first, abs-add, sum-abs}
-use Rattle.row_major.specs.Grid.{run, grid, cell}
-use Rattle.row_major.proofs.Grids.{run-cell, grid-cell}
-use Rattle.products.specs.Entries.{timesT, numbers}
-use Rattle.kalman.specs.Prediction.{predictedX, tempP, predictedP}
-use Rattle.promises.specs.Formulas.{Column, Matrix, termsA·P, termsT·Aᵀ, A·x, A·P, A·P·Aᵀ+Q, Numbers, Step, both, x-alone, P-alone, stepped, exactly}
-use Rattle.promises.specs.Runs.{State, HoldsColumn, HoldsMatrix, Holds, Run, end, predict, predict-x, predict-p, left}
-use Rattle.promises.specs.Demand3.{limit, SmallX, SmallP, AllSmall, WholeRun}
+use Rattle.numbers.specs.Sums.{sumFirst, products}
+use Rattle.numbers.specs.Whole.{Whole, sumℤ, absSum, productsℤ}
+use Rattle.numbers.proofs.Exact.{add-whole, dot-from-zero, dot-from-first, abs-add, sum-abs}
+use Rattle.grids.specs.Grid.{run, grid, cell, Same}
+use Rattle.grids.proofs.Grids.{run-cell, grid-cell}
+use Rattle.entries.specs.Entries.{timesT, numbers}
+use Rattle.filters.specs.Prediction.{predictedX, tempP, predictedP}
+use Rattle.promises.specs.Formulas.{Column, Matrix, termsA·P, termsT·Aᵀ, A·x, A·P, A·P·Aᵀ+Q, Spreading, exactX, exactP}
+use Rattle.promises.specs.Runs.{State, HoldsColumn, HoldsMatrix, Run, end, predict, predict-x, predict-p, left}
+use Rattle.promises.specs.WholeNumbers.{limit, SmallX, SmallP, AllSmallX, AllSmallP, WholeX, WholeP}
 
 -- ---- a whole number lies within its buffer, since what a read past the end gives is none
 within : (l : List Float) (i : ℕ) (z : ℤ) → Whole (getD l i nan) z → i < length l
@@ -69,21 +69,42 @@ module _ (f : Format) (n : ℕ) (A : List Float) (a : Matrix) (hA : HoldsMatrix 
       (small .of-A·P·Aᵀ+Q r c lr lc))
 
 -- ---- a run
-run-exact : (f : Format) (n : ℕ) (steps : List Step) (s e : State) → Run f n steps s e
-    → (w : Numbers) → Holds n s w → AllSmall f n steps w → Holds n e (exactly n steps w)
-unfolding exactly
-run-exact f n steps s e end w h small = h
-run-exact f n steps s e (predict {A = A} {Q = Q} {x' = x'} {P' = P'} {a = a} {q = q} {steps = later} call d hA hQ rest) w h small =
-    let hx : HoldsColumn n x' (A·x n a (w .x)) = rw (call .x-after, d) (x-exact f n A a hA (s .x) (w .x) (h .x) (small .0 .0)) in
-    let hP : HoldsMatrix n P' (A·P·Aᵀ+Q n a (w .P) q) = rw (call .P-after, d) (P-exact f n A a hA (s .P) Q (w .P) q (h .P) hQ (small .0 .1)) in
-    run-exact f n later _ e rest (stepped n (both a q) w) (record { x = hx; P = hP }) (small .1)
-run-exact f n steps s e (predict-x {A = A} {x' = x'} {a = a} {steps = later} call d hA rest) w h small =
-    let hx : HoldsColumn n x' (A·x n a (w .x)) = rw (call .x-after, d) (x-exact f n A a hA (s .x) (w .x) (h .x) (small .0)) in
-    run-exact f n later _ e rest (stepped n (x-alone a) w) (record { x = hx; P = h .P }) (small .1)
-run-exact f n steps s e (predict-p {A = A} {Q = Q} {P' = P'} {a = a} {q = q} {steps = later} call d hA hQ rest) w h small =
-    let hP : HoldsMatrix n P' (A·P·Aᵀ+Q n a (w .P) q) = rw (call .P-after, d) (P-exact f n A a hA (s .P) Q (w .P) q (h .P) hQ (small .0)) in
-    run-exact f n later _ e rest (stepped n (P-alone a q) w) (record { x = h .x; P = hP }) (small .1)
-run-exact f n steps s e (left {s' = t} p q rest) w h small = run-exact f n steps t e rest w (record { x = rw p (h .x); P = rw q (h .P) }) small
 
-pub exact : (f : Format) (n : ℕ) (steps : List Step) (s e : State) (w : Numbers) → WholeRun f n steps s e w → Holds n e (exactly n steps w)
-exact f n steps s e w r = run-exact f n steps s e (r .run) w (r .start) (r .small)
+-- the same numbers in front are the same whole numbers
+pub same-column : (n : ℕ) (l m : List Float) (v : Column) → ((r : ℕ) → r < n → numbers m r ≡ numbers l r) → HoldsColumn n l v → HoldsColumn n m v
+same-column n l m v same h r lt = rw (same r lt) (h r lt)
+
+pub same-matrix : (n : ℕ) (l m : List Float) (p : Matrix) → Same n (cell n m) (cell n l) → HoldsMatrix n l p → HoldsMatrix n m p
+same-matrix n l m p same h r c lr lc = rw (same r c lr lc) (h r c lr lc)
+
+x-run-exact : (f : Format) (n : ℕ) (ms : List Matrix) (ss : List Spreading) (s e : State) → Run f n ms ss s e
+    → (v : Column) → HoldsColumn n (s .x) v → AllSmallX f n ms v → HoldsColumn n (e .x) (exactX n ms v)
+unfolding exactX
+x-run-exact f n ms ss s e end v h small = h
+x-run-exact f n ms ss s e (predict {A = A} {x' = x'} {a = a} {ms = later} {ss = after} call d hA hQ rest) v h small =
+    let hx : HoldsColumn n x' (A·x n a v) = rw (call .x-after, d) (x-exact f n A a hA (s .x) v h (small .0)) in
+    x-run-exact f n later after _ e rest (A·x n a v) hx (small .1)
+x-run-exact f n ms ss s e (predict-x {A = A} {x' = x'} {a = a} {ms = later} call d hA rest) v h small =
+    let hx : HoldsColumn n x' (A·x n a v) = rw (call .x-after, d) (x-exact f n A a hA (s .x) v h (small .0)) in
+    x-run-exact f n later ss _ e rest (A·x n a v) hx (small .1)
+x-run-exact f n ms ss s e (predict-p {ss = after} call d hA hQ rest) v h small = x-run-exact f n ms after _ e rest v h small
+x-run-exact f n ms ss s e (left {t = t} same rest) v h small = x-run-exact f n ms ss t e rest v (same-column n (s .x) (t .x) v (same .x) h) small
+
+P-run-exact : (f : Format) (n : ℕ) (ms : List Matrix) (ss : List Spreading) (s e : State) → Run f n ms ss s e
+    → (p : Matrix) → HoldsMatrix n (s .P) p → AllSmallP f n ss p → HoldsMatrix n (e .P) (exactP n ss p)
+unfolding exactP
+P-run-exact f n ms ss s e end p h small = h
+P-run-exact f n ms ss s e (predict {A = A} {Q = Q} {P' = P'} {a = a} {q = q} {ms = later} {ss = after} call d hA hQ rest) p h small =
+    let hP : HoldsMatrix n P' (A·P·Aᵀ+Q n a p q) = rw (call .P-after, d) (P-exact f n A a hA (s .P) Q p q h hQ (small .0)) in
+    P-run-exact f n later after _ e rest (A·P·Aᵀ+Q n a p q) hP (small .1)
+P-run-exact f n ms ss s e (predict-x {ms = later} call d hA rest) p h small = P-run-exact f n later ss _ e rest p h small
+P-run-exact f n ms ss s e (predict-p {A = A} {Q = Q} {P' = P'} {a = a} {q = q} {ss = after} call d hA hQ rest) p h small =
+    let hP : HoldsMatrix n P' (A·P·Aᵀ+Q n a p q) = rw (call .P-after, d) (P-exact f n A a hA (s .P) Q p q h hQ (small .0)) in
+    P-run-exact f n ms after _ e rest (A·P·Aᵀ+Q n a p q) hP (small .1)
+P-run-exact f n ms ss s e (left {t = t} same rest) p h small = P-run-exact f n ms ss t e rest p (same-matrix n (s .P) (t .P) p (same .P) h) small
+
+pub exact-x : (f : Format) (n : ℕ) (ms : List Matrix) (ss : List Spreading) (s e : State) (v : Column) → WholeX f n ms ss s e v → HoldsColumn n (e .x) (exactX n ms v)
+exact-x f n ms ss s e v r = x-run-exact f n ms ss s e (r .run) v (r .start) (r .small)
+
+pub exact-P : (f : Format) (n : ℕ) (ms : List Matrix) (ss : List Spreading) (s e : State) (p : Matrix) → WholeP f n ms ss s e p → HoldsMatrix n (e .P) (exactP n ss p)
+exact-P f n ms ss s e p r = P-run-exact f n ms ss s e (r .run) p (r .start) (r .small)

@@ -1,18 +1,17 @@
--- predict is predict_x and predict_p, in either order: "the two halves write nothing in common, so their order is free". Neither is lent what the other writes,
+-- predict is predict_x and predict_p, in either order (R17). Neither is lent what the other writes,
 -- so each is promised over the x, A, P and Q that were there before both, whichever comes first. Assumes nothing.
 use mathlib.Core.Path.{_≡_, sym, ap, _∙_}
-use mathlib.Core.Bool.{true, true≢false}
+use mathlib.Core.Bool.{true}
 use mathlib.Core.List.{List, [], _∷_}
 use Prim.Native.Nat.{ℕ, _*_}
 use lib.ListN.{length}
 use lib.Ieee.{Float, Format}
 use Rattle.answers.specs.declared.Answer.{Answer}
-use Rattle.answers.specs.declared.Answer.the-variants.{Done}
 use Rattle.answers.specs.Answers.{isDone}
-use Rattle.answers.specs.Tests.{sizeTaken, Lent, lent, callAnswer}
-use Rattle.answers.specs.Exactly.{All, holds, Given, size, short, range, done}
-use Rattle.answers.proofs.Table.{given-is, is-given}
-use Rattle.kalman.specs.Promise.{predictAnswer, predictXAnswer, predictPAnswer, Predicted, PredictedX, PredictedP}
+use Rattle.answers.specs.Tests.{Lent, lent}
+use Rattle.answers.specs.Exactly.{All, holds}
+use Rattle.answers.proofs.Table.{passed, passes}
+use Rattle.filters.specs.Predicted.{predictAnswer, predictXAnswer, predictPAnswer, Predicted, PredictedX, PredictedP}
 
 -- predict leaves x' and P'; of the same x, A, P and Q, predict_x leaves x₁ and predict_p P₁
 pub predict-leaves-what-its-halves-leave :
@@ -24,19 +23,6 @@ pub predict-leaves-what-its-halves-leave :
 predict-leaves-what-its-halves-leave h d hx dx hp dp = (rw (h .x-after, d, hx .x-after, dx), rw (h .P-after, d, hp .P-after, dp))
 
 -- ---- with the same work buffers, predict is accepted exactly when both halves are
-
--- a call without rows and columns is accepted exactly when each size and each buffer is taken
-all-taken : (ns : List ℕ) (bs : List Lent) → isDone (callAnswer ns bs []) ≡ true → All sizeTaken ns × All holds bs
-all-taken ns bs d = go (callAnswer ns bs []) (is-given ns bs []) d
-  where
-    go : (v : Answer) → Given ns bs [] v → isDone v ≡ true → All sizeTaken ns × All holds bs
-    go v (size k n h) e = absurd (true≢false (sym e))
-    go v (short k b a h) e = absurd (true≢false (sym e))
-    go v (range k p a b h) e = absurd (true≢false (sym e))
-    go v (done a b c) e = (a, b)
-
-taken-all : (ns : List ℕ) (bs : List Lent) → All sizeTaken ns → All holds bs → isDone (callAnswer ns bs []) ≡ true
-taken-all ns bs a b = ap isDone (given-is ns bs [] Done (done a b tt))
 
 module _ {f : Format} {n : ℕ} {x A P Q px temp : List Float} {v v₁ v₂ : Answer} {x' P' px' temp' x₁ px₁' P₁ temp₁' : List Float}
     (whole : Predicted f n x A P Q px temp v x' P' px' temp') (first : PredictedX f n x A px v₁ x₁ px₁') (second : PredictedP f n A P Q temp v₂ P₁ temp₁') where
@@ -58,13 +44,13 @@ module _ {f : Format} {n : ℕ} {x A P Q px temp : List Float} {v v₁ v₂ : An
   pub accepted-in-halves : isDone v ≡ true → (isDone v₁ ≡ true) × (isDone v₂ ≡ true)
   unfolding predictAnswer predictXAnswer predictPAnswer
   accepted-in-halves d =
-      let h = all-taken (n ∷ []) lent-to-predict (ap isDone (sym (whole .answer)) ∙ d) in
+      let h = passed (n ∷ []) lent-to-predict [] (ap isDone (sym (whole .answer)) ∙ d) in
       let b = apart (h .1) in
-      (ap isDone (first .answer) ∙ taken-all (n ∷ []) lent-to-predict-x (h .0) (b .0), ap isDone (second .answer) ∙ taken-all (n ∷ []) lent-to-predict-p (h .0) (b .1))
+      (ap isDone (first .answer) ∙ passes (n ∷ []) lent-to-predict-x [] (h .0) (b .0) tt, ap isDone (second .answer) ∙ passes (n ∷ []) lent-to-predict-p [] (h .0) (b .1) tt)
 
   pub halves-accepted : isDone v₁ ≡ true → isDone v₂ ≡ true → isDone v ≡ true
   unfolding predictAnswer predictXAnswer predictPAnswer
   halves-accepted dx dp =
-      let h = all-taken (n ∷ []) lent-to-predict-x (ap isDone (sym (first .answer)) ∙ dx) in
-      let k = all-taken (n ∷ []) lent-to-predict-p (ap isDone (sym (second .answer)) ∙ dp) in
-      ap isDone (whole .answer) ∙ taken-all (n ∷ []) lent-to-predict (h .0) (together (h .1) (k .1))
+      let h = passed (n ∷ []) lent-to-predict-x [] (ap isDone (sym (first .answer)) ∙ dx) in
+      let k = passed (n ∷ []) lent-to-predict-p [] (ap isDone (sym (second .answer)) ∙ dp) in
+      ap isDone (whole .answer) ∙ passes (n ∷ []) lent-to-predict [] (h .0) (together (h .1) (k .1)) tt

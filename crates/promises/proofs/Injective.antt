@@ -8,9 +8,9 @@ use native.Mathlib.Nat.{le-step, le-refl, not-suc-le-zero, le-of-suc-le-suc, eq-
 use native.Mathlib.Decide.{decLt}
 use native.Mathlib.Omega.{arith}
 use lib.IntN.{ℤ, pos, one, negℤ, _+ℤ_, _*ℤ_, +ℤ-comm, +ℤ-negℤ-cancel, *ℤ-comm, *ℤ-one, zero-*ℤ}
-use Rattle.data_type.specs.Whole.{sumℤ}
-use Rattle.promises.specs.Formulas.{Column, Matrix, termsA·x, termsT·Aᵀ, A·x, A·P, A·P·Aᵀ+Q, Numbers, Step, both, x-alone, P-alone, stepped, exactly}
-use Rattle.promises.specs.Demand3.{UnitUpper, AllUnitUpper}
+use Rattle.numbers.specs.Whole.{sumℤ}
+use Rattle.promises.specs.Formulas.{Column, Matrix, termsA·x, termsT·Aᵀ, A·x, A·P, A·P·Aᵀ+Q, Spreading, exactX, exactP}
+use Rattle.promises.specs.WholeNumbers.{UnitUpper, AllUnitUpper, AsOf}
 
 -- ---- sums
 cancel-right : (a b c : ℤ) → a +ℤ c ≡ b +ℤ c → a ≡ b
@@ -61,18 +61,14 @@ module _ (n : ℕ) (a : Matrix) (upper : UnitUpper n a) where
       ∙ sum-same (pos 0) (λ k. A·P n a p' i k *ℤ a j k) (λ k. a j k *ℤ A·P n a p' i k) n (λ k l. *ℤ-comm (A·P n a p' i k) (a j k))) c lc) r lr
 
 -- ---- a run: where two end alike, they started alike
-pub x-run : (n : ℕ) (steps : List Step) → AllUnitUpper n steps → (w w' : Numbers)
-    → ((r : ℕ) → r < n → exactly n steps w .x r ≡ exactly n steps w' .x r) → (r : ℕ) → r < n → w .x r ≡ w' .x r
-unfolding exactly
-x-run n [] u w w' e = e
-x-run n (both a q ∷ ss) u w w' e = x-injective n a (u .0) (w .x) (w' .x) (x-run n ss (u .1) (stepped n (both a q) w) (stepped n (both a q) w') e)
-x-run n (x-alone a ∷ ss) u w w' e = x-injective n a (u .0) (w .x) (w' .x) (x-run n ss (u .1) (stepped n (x-alone a) w) (stepped n (x-alone a) w') e)
-x-run n (P-alone a q ∷ ss) u w w' e = x-run n ss (u .1) (stepped n (P-alone a q) w) (stepped n (P-alone a q) w') e
+pub x-run : (n : ℕ) (ms : List Matrix) → AllUnitUpper n ms → (v v' : Column)
+    → ((r : ℕ) → r < n → exactX n ms v r ≡ exactX n ms v' r) → (r : ℕ) → r < n → v r ≡ v' r
+unfolding exactX
+x-run n [] u v v' e = e
+x-run n (a ∷ ms) u v v' e = x-injective n a (u .0) v v' (x-run n ms (u .1) (A·x n a v) (A·x n a v') e)
 
-pub P-run : (n : ℕ) (steps : List Step) → AllUnitUpper n steps → (w w' : Numbers)
-    → ((r c : ℕ) → r < n → c < n → exactly n steps w .P r c ≡ exactly n steps w' .P r c) → (r c : ℕ) → r < n → c < n → w .P r c ≡ w' .P r c
-unfolding exactly
-P-run n [] u w w' e = e
-P-run n (both a q ∷ ss) u w w' e = P-injective n a (u .0) (w .P) (w' .P) q (P-run n ss (u .1) (stepped n (both a q) w) (stepped n (both a q) w') e)
-P-run n (x-alone a ∷ ss) u w w' e = P-run n ss (u .1) (stepped n (x-alone a) w) (stepped n (x-alone a) w') e
-P-run n (P-alone a q ∷ ss) u w w' e = P-injective n a (u .0) (w .P) (w' .P) q (P-run n ss (u .1) (stepped n (P-alone a q) w) (stepped n (P-alone a q) w') e)
+pub P-run : (n : ℕ) (ss : List Spreading) → AllUnitUpper n (AsOf ss) → (p p' : Matrix)
+    → ((r c : ℕ) → r < n → c < n → exactP n ss p r c ≡ exactP n ss p' r c) → (r c : ℕ) → r < n → c < n → p r c ≡ p' r c
+unfolding exactP
+P-run n [] u p p' e = e
+P-run n (s ∷ ss) u p p' e = P-injective n (s .a) (u .0) p p' (s .q) (P-run n ss (u .1) (A·P·Aᵀ+Q n (s .a) p (s .q)) (A·P·Aᵀ+Q n (s .a) p' (s .q)) e)

@@ -1,10 +1,12 @@
--- Demand 3 is kept (Demand3), and its premise can be met at the limit (AtLimit). Refused calls leave x and P (Refused). The checked examples hold (Table).
+-- R23 and R24 are kept (WholeNumbers), of the record too (Yarns), and their premise can be met at the limit (AtLimit). Refused calls leave x and P (Refused). The checked examples hold (Table).
 -- predict is its two halves (Halves). The rest are the steps to these.
 mod Numbers
 mod Exact
 mod Injective
 mod Different
-pub mod Demand3
+pub mod WholeNumbers
+pub mod Yarns
+pub mod Unchanged
 pub mod Refused
 pub mod Halves
 pub mod AtLimit

@@ -8,8 +8,8 @@ use lib.IntN.{ℤ, pos, natAbs, negℤ, pos-ne-negsuc}
 use lib.Dec.{eqb}
 use lib.Ieee.{Float, nan, inf, fin, up, down, level, eq, ne}
 use lib.Ieee.Fits.{down-pos}
-use Rattle.data_type.specs.Whole.{signed, Whole}
-use Rattle.data_type.proofs.Exact.{abs-signed}
+use Rattle.numbers.specs.Whole.{signed, Whole}
+use Rattle.numbers.proofs.Exact.{abs-signed}
 
 both : (b c : Bool) → (b && c) ≡ true → (b ≡ true) × (c ≡ true)
 both true c h = (refl, h)

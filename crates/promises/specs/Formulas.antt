@@ -2,7 +2,7 @@
 use mathlib.Core.List.{List, [], _∷_}
 use Prim.Native.Nat.{ℕ}
 use lib.IntN.{ℤ, pos, _+ℤ_}
-use Rattle.data_type.specs.Whole.{sumℤ, productsℤ}
+use Rattle.numbers.specs.Whole.{sumℤ, productsℤ}
 
 -- the whole numbers of a vector by their places
 abbrev pub Column : Type 0
@@ -38,24 +38,17 @@ A·P·Aᵀ+Q n a p q r c = sumℤ (pos 0) (termsT·Aᵀ (A·P n a p) a r c) n +�
 
 -- ---- one prediction after the other
 
--- the numbers in x and P
-pub record Numbers : Type 0 where
-  pub x : Column
-  pub P : Matrix
+-- the numbers of the A and the Q of an accepted prediction of P
+pub record Spreading : Type 0 where
+  pub a : Matrix
+  pub q : Matrix
 
--- an accepted prediction with the numbers of its A and Q: of both, of x alone, of P alone
-pub data Step : Type 0 where
-  both : (a q : Matrix) → Step
-  x-alone : (a : Matrix) → Step
-  P-alone : (a q : Matrix) → Step
+-- x after predictions of it with these As, the first first
+unfoldable pub exactX : ℕ → List Matrix → Column → Column
+exactX n [] x = x
+exactX n (a ∷ ms) x = exactX n ms (A·x n a x)
 
--- x and P after a prediction
-abbrev pub stepped : ℕ → Step → Numbers → Numbers
-stepped n (both a q) w = record { x = A·x n a (w .x); P = A·P·Aᵀ+Q n a (w .P) q }
-stepped n (x-alone a) w = record { x = A·x n a (w .x); P = w .P }
-stepped n (P-alone a q) w = record { x = w .x; P = A·P·Aᵀ+Q n a (w .P) q }
-
--- x and P after all the predictions, the first first
-unfoldable pub exactly : ℕ → List Step → Numbers → Numbers
-exactly n [] w = w
-exactly n (s ∷ ss) w = exactly n ss (stepped n s w)
+-- P after predictions of it with these As and Qs
+unfoldable pub exactP : ℕ → List Spreading → Matrix → Matrix
+exactP n [] p = p
+exactP n (s ∷ ss) p = exactP n ss (A·P·Aᵀ+Q n (s .a) p (s .q))

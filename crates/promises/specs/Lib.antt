@@ -1,5 +1,6 @@
--- What belongs to no one function: demand 3 (the formulas without rounding, the runs of calls, the demand about both), and the table of checked examples.
+-- What belongs to no one function: whole numbers over many calls (the formulas without rounding, the runs of calls, R23 and R24 about both), and the table of checked examples.
 pub mod Formulas
 pub mod Runs
-pub mod Demand3
+pub mod WholeNumbers
+pub mod Yarns
 pub mod Table

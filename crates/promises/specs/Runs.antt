@@ -6,11 +6,11 @@ use Prim.Native.Nat.{ℕ, _<_}
 use lib.Ieee.{Float, Format}
 use Rattle.answers.specs.declared.Answer.{Answer}
 use Rattle.answers.specs.Answers.{isDone}
-use Rattle.data_type.specs.Whole.{Whole}
-use Rattle.row_major.specs.Grid.{cell}
-use Rattle.products.specs.Entries.{numbers}
-use Rattle.kalman.specs.Promise.{Predicted, PredictedX, PredictedP}
-use Rattle.promises.specs.Formulas.{Column, Matrix, Numbers, Step, both, x-alone, P-alone}
+use Rattle.numbers.specs.Whole.{Whole}
+use Rattle.grids.specs.Grid.{cell, Same}
+use Rattle.entries.specs.Entries.{numbers}
+use Rattle.filters.specs.Predicted.{Predicted, PredictedX, PredictedP}
+use Rattle.promises.specs.Formulas.{Column, Matrix, Spreading}
 
 -- the two buffers that a filter keeps from call to call
 pub record State : Type 0 where
@@ -21,7 +21,7 @@ pub record State : Type 0 where
 abbrev pub state : List Float → List Float → State
 state x P = record { x = x; P = P }
 
--- ---- "A, P, Q and x hold whole numbers"; both zeros are the number 0
+-- ---- buffers that hold whole numbers; both zeros are the number 0
 
 -- the buffer begins with the n numbers of v
 abbrev pub HoldsColumn : ℕ → List Float → Column → Type 0
@@ -31,38 +31,38 @@ HoldsColumn n l v = (r : ℕ) → r < n → Whole (numbers l r) (v r)
 abbrev pub HoldsMatrix : ℕ → List Float → Matrix → Type 0
 HoldsMatrix n l m = (r c : ℕ) → r < n → c < n → Whole (cell n l r c) (m r c)
 
--- x and P hold the numbers of w
-pub record Holds (n : ℕ) (s : State) (w : Numbers) : Type 0 where
-  pub x : HoldsColumn n (s .x) (w .x)
-  pub P : HoldsMatrix n (s .P) (w .P)
+-- ---- calls one after the other, of which the accepted predictions alone write x and P
 
--- ---- "any number of accepted predictions, with no accepted correction and no other write to x or P between them"
+-- the two hold the same n numbers of x and the same n by n of P; what lies past them may differ, and so may the buffers' lengths
+pub record SameFront (n : ℕ) (s t : State) : Type 0 where
+  pub x : (r : ℕ) → r < n → numbers (t .x) r ≡ numbers (s .x) r
+  pub P : Same n (cell n (t .P)) (cell n (s .P))
 
--- A run for n states that takes x and P from s to e. Its accepted predictions are the steps, the first first; each has an A, a Q and work buffers of its own.
-pub data Run (f : Format) (n : ℕ) : List Step → State → State → Type 0 where
+-- A run for n states that takes x and P from s to e. The As of its accepted predictions of x, and the As and Qs of those of P, are listed, the first first:
+-- `predict` is one of each. Each call has an A, a Q and work buffers of its own.
+pub data Run (f : Format) (n : ℕ) : List Matrix → List Spreading → State → State → Type 0 where
   -- no call
-  end : {s : State} → Run f n [] s s
+  end : {s : State} → Run f n [] [] s s
   -- an accepted call of predict
-  predict : {A Q px temp x' P' px' temp' : List Float} {v : Answer} {a q : Matrix} {steps : List Step} {s e : State}
+  predict : {A Q px temp x' P' px' temp' : List Float} {v : Answer} {a q : Matrix} {ms : List Matrix} {ss : List Spreading} {s e : State}
       → Predicted f n (s .x) A (s .P) Q px temp v x' P' px' temp' → isDone v ≡ true
       → HoldsMatrix n A a → HoldsMatrix n Q q
-      → Run f n steps (state x' P') e
-      → Run f n (both a q ∷ steps) s e
+      → Run f n ms ss (state x' P') e
+      → Run f n (a ∷ ms) (record { a = a; q = q } ∷ ss) s e
   -- an accepted call of predict_x
-  predict-x : {A px x' px' : List Float} {v : Answer} {a : Matrix} {steps : List Step} {s e : State}
+  predict-x : {A px x' px' : List Float} {v : Answer} {a : Matrix} {ms : List Matrix} {ss : List Spreading} {s e : State}
       → PredictedX f n (s .x) A px v x' px' → isDone v ≡ true
       → HoldsMatrix n A a
-      → Run f n steps (state x' (s .P)) e
-      → Run f n (x-alone a ∷ steps) s e
+      → Run f n ms ss (state x' (s .P)) e
+      → Run f n (a ∷ ms) ss s e
   -- an accepted call of predict_p
-  predict-p : {A Q temp P' temp' : List Float} {v : Answer} {a q : Matrix} {steps : List Step} {s e : State}
+  predict-p : {A Q temp P' temp' : List Float} {v : Answer} {a q : Matrix} {ms : List Matrix} {ss : List Spreading} {s e : State}
       → PredictedP f n A (s .P) Q temp v P' temp' → isDone v ≡ true
       → HoldsMatrix n A a → HoldsMatrix n Q q
-      → Run f n steps (state (s .x) P') e
-      → Run f n (P-alone a q ∷ steps) s e
-  -- a call that leaves x and P as they were, as every refused call of any public function does
-  left : {steps : List Step} {s s' e : State}
-      → s' .x ≡ s .x
-      → s' .P ≡ s .P
-      → Run f n steps s' e
-      → Run f n steps s e
+      → Run f n ms ss (state (s .x) P') e
+      → Run f n ms (record { a = a; q = q } ∷ ss) s e
+  -- anything that leaves the numbers of x and P: a refused prediction, correction or update, a write past the matrix, other buffers lent with the same numbers
+  left : {ms : List Matrix} {ss : List Spreading} {s t e : State}
+      → SameFront n s t
+      → Run f n ms ss t e
+      → Run f n ms ss s e

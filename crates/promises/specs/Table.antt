@@ -1,16 +1,16 @@
--- Document 01's checked examples, those marked ●, of the definitions themselves: one table, bits in hexadecimal. `proofs/Table.antt` computes it. Definitions only.
+-- The checked examples (R26), of the definitions themselves: one table, bits in hexadecimal. `proofs/Table.antt` computes it. Definitions only.
 use mathlib.Core.Bool.{Bool, true, false, _&&_}
 use mathlib.Core.List.{List, [], _∷_, map}
 use Prim.Native.Nat.{ℕ}
 use lib.Dec.{eqb}
 use lib.Ieee.{Float, binary32, ofBits, toBits}
-use Rattle.data_type.specs.Root.{sqrtOf}
-use Rattle.row_major.specs.Grid.{cell, run, grid}
-use Rattle.products.specs.Entries.{product, rowProduct}
-use Rattle.cholesky.specs.Decomposition.{reached, decomposed}
-use Rattle.inverse.specs.Inverse.{inverse}
-use Rattle.kalman.specs.Prediction.{predictedX, tempP, predictedP}
-use Rattle.observations.specs.Correction.{innovationOf, residualOf, gainOf, newX, newP}
+use Rattle.numbers.specs.Root.{sqrtOf}
+use Rattle.grids.specs.Grid.{cell, run, grid}
+use Rattle.entries.specs.Entries.{product, rowProduct}
+use Rattle.factors.specs.Decomposition.{reached, decomposed}
+use Rattle.factors.specs.Inverse.{inverse}
+use Rattle.filters.specs.Prediction.{predictedX, tempP, predictedP}
+use Rattle.filters.specs.Correction.{innovationOf, residualOf, gainOf, newX, newP}
 use Rattle.one_state.specs.OneState.{spread, gain, correctedX, correctedP}
 
 -- ---- how a line is read
@@ -65,33 +65,33 @@ alone b k = ofBits binary32 b
 unfoldable pub table : Bool
 unfolding has are leaves inverts
 table =
-    -- "Root: 40800000 gives 40000000; 40000000 gives 3fb504f3."
+    -- roots of 4 and 2
     has (sqrtOf binary32 (ofBits binary32 0x40800000)) 0x40000000
     && has (sqrtOf binary32 (ofBits binary32 0x40000000)) 0x3fb504f3
-    -- "Root: 00000001 gives 1a3504f3; 7f7fffff gives 5f7fffff; 80000000 gives 80000000." And +∞ gives itself.
+    -- of the least and the largest number, of −0 and of +∞
     && has (sqrtOf binary32 (ofBits binary32 0x00000001)) 0x1a3504f3
     && has (sqrtOf binary32 (ofBits binary32 0x7f7fffff)) 0x5f7fffff
     && has (sqrtOf binary32 (ofBits binary32 0x80000000)) 0x80000000
     && has (sqrtOf binary32 (ofBits binary32 0x7f800000)) 0x7f800000
-    -- "A = [1 1; 0 1], x = [3 2]: x becomes [5 2]."
+    -- A·x
     && are (run 0 2 (predictedX binary32 2 A (values (0x40400000 ∷ 0x40000000 ∷ []))) (values (0x40400000 ∷ 0x40000000 ∷ []))) (0x40a00000 ∷ 0x40000000 ∷ [])
-    -- "Same A, P = [2 1; 1 3], Q = identity: temp_P = [3 4; 1 3], P = [8 4; 4 4]."
+    -- A·P, and A·P·Aᵀ + Q
     && are (grid 2 2 (tempP binary32 2 A P) P) (0x40400000 ∷ 0x40800000 ∷ 0x3f800000 ∷ 0x40400000 ∷ [])
     && are (grid 2 2 (predictedP binary32 2 A P Q) P) (0x41000000 ∷ 0x40800000 ∷ 0x40800000 ∷ 0x40800000 ∷ [])
-    -- "[4 2; 2 5] decomposes to [2 0; 1 2]. With NaN at (1,0) it does too."
+    -- a matrix that is decomposed, and the same with a NaN below the diagonal
     && leaves 2 (0x40800000 ∷ 0x40000000 ∷ 0x40000000 ∷ 0x40a00000 ∷ []) 2 (0x40000000 ∷ 0x00000000 ∷ 0x3f800000 ∷ 0x40000000 ∷ [])
     && leaves 2 (0x40800000 ∷ 0x40000000 ∷ 0x7fc00000 ∷ 0x40a00000 ∷ []) 2 (0x40000000 ∷ 0x00000000 ∷ 0x3f800000 ∷ 0x40000000 ∷ [])
-    -- "That factor inverts to [0.3125 −0.125; −0.125 0.25]": in a destination that held NaN
+    -- its inverse, in a destination that held NaN
     && inverts 2 (0x40000000 ∷ 0x00000000 ∷ 0x3f800000 ∷ 0x40000000 ∷ []) (0x7fc00000 ∷ 0x7fc00000 ∷ 0x7fc00000 ∷ 0x7fc00000 ∷ []) (0x3ea00000 ∷ 0xbe000000 ∷ 0xbe000000 ∷ 0x3e800000 ∷ [])
-    -- "[1 2; 2 1] is refused at pivot 1 and left as [1 2; 2 −3]."
+    -- refused at pivot 1
     && leaves 2 (0x3f800000 ∷ 0x40000000 ∷ 0x40000000 ∷ 0x3f800000 ∷ []) 1 (0x3f800000 ∷ 0x40000000 ∷ 0x40000000 ∷ 0xc0400000 ∷ [])
-    -- "[−5] is refused at pivot 0, cell left −0. [NaN] too, cell left NaN."
+    -- refused at pivot 0: below zero, and NaN
     && leaves 1 (0xc0a00000 ∷ []) 0 (0x80000000 ∷ [])
     && leaves 1 (0x7fc00000 ∷ []) 0 (0x7fc00000 ∷ [])
-    -- "[+∞] is accepted; its inverse is [+0]."
+    -- +∞ is taken; its inverse is +0
     && leaves 1 (0x7f800000 ∷ []) 1 (0x7f800000 ∷ [])
     && inverts 1 (0x7f800000 ∷ []) (0x7fc00000 ∷ []) (0x00000000 ∷ [])
-    -- "x = 1, P = 3, H = R = 1, z = 5: S was 4, K = 0.75, x = 4, P = 0.75": by the general filter
+    -- a correction, S, K, x and P: by the general filter
     && has (residualOf binary32 1 (only 0x3f800000) (only 0x40400000) (only 0x3f800000) 0 0) 0x40800000
     && has (gainOf binary32 1 1 (only 0x3f800000) (only 0x40400000) (only 0x3f800000) (only 0x7fc00000) 0 0) 0x3f400000
     && has (
@@ -104,9 +104,9 @@ table =
     && has (gain binary32 (ofBits binary32 0x3f800000) (ofBits binary32 0x40400000) (ofBits binary32 0x3f800000)) 0x3f400000
     && has (correctedX binary32 (ofBits binary32 0x3f800000) (ofBits binary32 0x40400000) (ofBits binary32 0x3f800000) (ofBits binary32 0x3f800000) (ofBits binary32 0x40a00000)) 0x40800000
     && has (correctedP binary32 (ofBits binary32 0x40400000) (ofBits binary32 0x3f800000) (ofBits binary32 0x3f800000)) 0x3f400000
-    -- "[−1] times [0]: −0 by mult_rowvector, +0 by mult."
+    -- −1 times +0, without and with a +0 in front
     && has (rowProduct binary32 1 (values (0xbf800000 ∷ [])) (values (0x00000000 ∷ [])) 0) 0x80000000
     && has (product binary32 1 1 (values (0xbf800000 ∷ [])) (values (0x00000000 ∷ [])) 0 0) 0x00000000
-    -- "A = [1 1; 0 1], x = [16777215 1]: first entry 16777216, exact. x = [16777216 1] is past the premise: 16777216 again."
+    -- 16777215 + 1, exact; 16777216 + 1, past the limit of R23
     && has (predictedX binary32 2 A (values (0x4b7fffff ∷ 0x3f800000 ∷ [])) 0) 0x4b800000
     && has (predictedX binary32 2 A (values (0x4b800000 ∷ 0x3f800000 ∷ [])) 0) 0x4b800000

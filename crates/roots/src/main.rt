@@ -2,10 +2,8 @@
 // the bit patterns of an argument and of its root in hexadecimal, or a comment that starts with
 // '#'. Writes `N compared, M differ` and `B bad lines`, and before them the first few lines that
 // differ, with what was found, and the first few bad ones.
-mod line;
-mod pattern;
 mod print;
-mod tally;
+mod replay;
 
 use libc::STDIN_FILENO;
 
@@ -13,7 +11,7 @@ use libc::STDIN_FILENO;
 fn main() {
     let mut space = [0u8; 524288];
     let n = io::read_full(STDIN_FILENO, &mut space);
-    let t = tally::replay(&space[..n]);
+    let t = replay::replay(&space[..n]);
     if n < 524288 {
         print::counts(t);
     } else {

@@ -1,6 +1,6 @@
 // What the program writes.
-use crate::tally::Tally;
 use libc::STDOUT_FILENO;
+use root_list::Tally;
 
 // The number n, and words behind it.
 fn number(n: u64, words: &[u8]) {
@@ -35,6 +35,7 @@ pub fn too_long() {
     io::write_all(STDOUT_FILENO, b"input too long\n");
 }
 
+// The counts at the end.
 pub fn counts(t: Tally) {
     number(t.compared, b" compared, ");
     number(t.differ, b" differ\n");

@@ -1,3 +1,2 @@
--- The definitions that the contracts cite: a buffer that holds a matrix, and what the cell functions promise.
-pub mod Grid
-pub mod Cells
+-- The definition that the contract of get cites; the other functions' are those of `grids`.
+pub mod Get

@@ -1,8 +1,9 @@
 // One cell: read, written, and written with its mirror image.
-ghost use Rattle.row_major.specs.Cells.{Got, Set, SetBoth};
+ghost use Rattle.row_major.specs.Get.{Got};
+ghost use Rattle.grids.specs.Cells.{Set, SetBoth};
 use crate::Read;
-use crate::gates;
 use answers::Answer;
+use cells::gates;
 
 // The number in the cell (row, column) of the rows by cols matrix m, or why it is refused.
 pub fn get(rows: usize, cols: usize, m: &[f32], row: usize, column: usize) -> Read
@@ -31,7 +32,7 @@ pub fn set(rows: usize, cols: usize, m: &mut [f32], row: usize, column: usize, v
 pub fn set_symmetric(n: usize, m: &mut [f32], row: usize, column: usize, value: f32) -> Answer
     ensures { λ v. ⌜ SetBoth n (now (m .entry)) row column value v (now (m .exit)) ⌝ }
 {
-    let v = gates::both(n, m.len(), row, column);
+    let v = gates::cell(n, n, m.len(), row, column);
     if answers::is_done(v) {
         m[row * n + column] = value;
         m[column * n + row] = value;

@@ -1,8 +1,10 @@
 // Fills: a number in every cell, on the diagonal, or off it.
-ghost use Rattle.row_major.specs.Cells.{Filled, DiagonalSet, Comatrix, plus0, one};
-use crate::cores;
-use crate::gates;
+ghost use Rattle.numbers.specs.Reciprocal.{one};
+ghost use Rattle.numbers.specs.Sums.{plus0};
+ghost use Rattle.grids.specs.Cells.{Filled, DiagonalSet, Comatrix};
 use answers::Answer;
+use cells::cores;
+use cells::gates;
 
 // x in every cell of the rows by cols matrix.
 pub fn set_all(rows: usize, cols: usize, m: &mut [f32], x: f32) -> Answer

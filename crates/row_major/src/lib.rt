@@ -1,9 +1,7 @@
 // Cells of a matrix that a lent buffer holds, row-major: entry (r, c) is at r·cols + c.
 mod cell;
 mod copy;
-pub mod cores;
 mod fill;
-pub mod gates;
 
 pub use cell::get;
 pub use cell::set;
@@ -18,6 +16,10 @@ pub use fill::make_scalar;
 pub use fill::set_all;
 pub use fill::set_diagonal_to_scalar;
 pub use fill::set_zero;
+
+// For the crates above, and not for users: the tests and the work that stand in `cells`.
+pub use cells::cores;
+pub use cells::gates;
 
 // What get finds.
 pub enum Read {

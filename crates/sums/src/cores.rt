@@ -1,9 +1,10 @@
-// The work of the sums and differences, for callers that have tested sizes and buffers.
+// The work of the sums and differences, for the crates above, which have tested sizes and buffers;
+// not for users.
 ghost use mathlib.Core.Path.{_≡_};
 ghost use Prim.Native.Nat.{_≤_};
 ghost use lib.ListN.{length, getD};
 ghost use lib.Ieee.{binary32, nan, add, sub};
-ghost use Rattle.row_major.specs.Grid.{run};
+ghost use Rattle.grids.specs.Grid.{run};
 
 // a − b in the first n cells of c.
 pub fn sub_cells(n: usize, a: &[f32], b: &[f32], c: &mut [f32])
@@ -49,18 +50,6 @@ pub fn add_cells_a(n: usize, a: &mut [f32], b: &[f32])
     let mut i: usize = 0;
     while i < n {
         a[i] = a[i] + b[i];
-        i += 1;
-    }
-}
-
-// a + b in the first n cells of b.
-pub fn add_cells_b(n: usize, a: &[f32], b: &mut [f32])
-    requires { ⌜ (n ≤ length (now a)) × (n ≤ length (now b)) ⌝ }
-    ensures { λ _. ⌜ now (b .exit) ≡ run 0 n (λ i. add binary32 (getD (now (a .entry)) i nan) (getD (now (b .entry)) i nan)) (now (b .entry)) ⌝ }
-{
-    let mut i: usize = 0;
-    while i < n {
-        b[i] = a[i] + b[i];
         i += 1;
     }
 }

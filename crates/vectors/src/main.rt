@@ -2,24 +2,15 @@
 // bit, any NaN equal to any other. The lists are those of the oracle (oracle/FORMAT.md). Writes
 // `C calls, N numbers compared, D differ` and `B bad lines`, and before them the first ten lines that
 // differ or are bad. A bad line counts as a difference too.
-mod correction;
-mod fours;
-mod jobs;
 mod line;
-mod names;
-mod numbers;
-mod prediction;
-mod print;
 mod stream;
 mod tally;
-mod twos;
-mod update;
 
 // 2³² fills of the buffer are more than any list has.
 fn main() {
     let mut space = [0u8; 524288];
     let buffer: &mut [u8] = &mut space;
-    let mut t = tally::empty();
+    let mut t = list_tally::tally::empty();
     let mut kept: usize = 0;
     let mut turns: u64 = 0x1_0000_0000;
     while 0 < turns {
@@ -32,5 +23,5 @@ fn main() {
             turns = 0;
         }
     }
-    print::counts(t);
+    list_tally::print::counts(t);
 }

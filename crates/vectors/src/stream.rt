@@ -1,8 +1,8 @@
 // The input, a buffer's fill at a time.
 ghost use Rattle.io.specs.Counts.{Counts};
 use crate::tally;
-use crate::tally::Tally;
 use libc::STDIN_FILENO;
+use list_tally::tally::Tally;
 
 // The counts so far, how many bytes of an unfinished line stand at the buffer's front, and whether
 // there may be more to read.

@@ -1,51 +1,33 @@
--- `add_inplace_b` meets its contract: the gate's answer decides, and the core's cells are those of the grid. Assumes nothing.
-use mathlib.Core.Path.{sym, _∙_}
+-- `add_inplace_b` meets its contract: the gate's answer decides, and the core's cells, their terms exchanged, are those of the grid. Assumes nothing.
+use mathlib.Core.Path.{_∙_}
 use native.Mathlib.Omega.{arith}
 use borrow.Author.Needs.{needs}
 use denote.Ref.{now}
-use lib.ListN.{length}
-use Rattle.answers.proofs.Kept.{accepted}
-use Rattle.row_major.proofs.Grids.{grid-flat}
-use Rattle.row_major.proofs.Shapes.{Shapes, pair-fits}
+use lib.Ieee.{binary32}
+use Rattle.grids.proofs.Pairs.{stored-in, left-in, added-right}
+use Rattle.grids.proofs.Shapes.{pair-fits}
 use Rattle.sums.proofs.add_inplace_b.Statement.{statement}
 use Rattle.sums.proofs.add_inplace_b.Tie as tie
 
--- the sizes are taken and the buffers hold the matrices
-shapes : (c : tie.Then1) → let a = c .before .before .before .before .before .args in Shapes (a .rows) (a .cols) (length (now (a .a))) (length (now (a .b)))
-shapes c = pair-fits _ _ _ _ (accepted (c .before .before .pair .ensures) (c .before .is-done .ensures) (c .if1 .taken))
-
-pair-requires : tie.Need-pair-requires
-pair-requires c κs = search needs
-
-is-done-requires : tie.Need-is-done-requires
-is-done-requires c κs = search needs
-
-mul-add-cells-b : tie.Need-mul-add-cells-b
-mul-add-cells-b c = omega (arith, shapes c)
-
-add-cells-b-requires : tie.Need-add-cells-b-requires
-add-cells-b-requires c κs = (shapes (c .before) .left-holds, shapes (c .before) .right-holds)
-
-same-length : tie.Need-same-length
-same-length c = search needs
+add-cells-a-requires : tie.Need-add-cells-a-requires
+add-cells-a-requires c κs =
+    let s = pair-fits _ _ _ _ (c .before .before .before .pair .ensures) (c .before .before .is-done .ensures) (c .before .if1 .taken) in
+    (s .both-hold .1, s .both-hold .0)
 
 returns : tie.Need-returns
-returns c = record {
-  answer = c .before .before .before .before .before .before .pair .ensures;
-  after = simp (sym (c .before .before .before .before .before .is-done .ensures) ∙ c .before .before .before .before .if1 .taken) (c .before .before .add-cells-b .ensures ∙ sym (grid-flat _ _ _ _));
-}
-
-returns-2 : tie.Need-returns-2
-returns-2 c = record { answer = c .before .before .pair .ensures; after = simp (sym (c .before .is-done .ensures) ∙ c .if1 .left) }
+returns c =
+    let t = c .before .before .before .before in
+    let m = t .before .before .before .before .before .args in
+    stored-in (t .before .before .pair .ensures) (t .before .is-done .ensures) (t .if1 .taken) (c .before .before .add-cells-a .ensures ∙ added-right binary32 _ (now (m .a)) (now (m .b)) (now (m .b)))
 
 pub add-inplace-b-spec : {M : Type 1} → statement M
 add-inplace-b-spec =
     tie.close
     (tie.spec
-    pair-requires
-    is-done-requires
-    mul-add-cells-b
-    add-cells-b-requires
-    same-length
+    (λ c κs. search needs)
+    (λ c κs. search needs)
+    (λ c. omega (arith, pair-fits _ _ _ _ (c .before .before .pair .ensures) (c .before .is-done .ensures) (c .if1 .taken)))
+    add-cells-a-requires
+    (λ c. search needs)
     returns
-    returns-2)
+    (λ c. left-in (c .before .before .pair .ensures) (c .before .is-done .ensures) (c .if1 .left)))

@@ -5,8 +5,8 @@ use native.Mathlib.Omega.{arith}
 use borrow.Author.Needs.{needs}
 use denote.Ref.{now}
 use lib.Ieee.{Float, binary32}
-use Rattle.row_major.specs.Grid.{grid, cell}
-use Rattle.cholesky.proofs.Sweep.{end-refused, cleared}
+use Rattle.grids.specs.Grid.{grid, cell}
+use Rattle.factors.proofs.Sweep.{end-refused, cleared}
 use Rattle.cholesky.proofs.cores.decompose_cells.Statement.{statement}
 use Rattle.cholesky.proofs.cores.decompose_cells.Tie as tie
 

@@ -6,8 +6,8 @@ use denote.Ref.{now}
 use lib.ListN.{length}
 use Rattle.answers.specs.Answers.{isDone}
 use Rattle.answers.proofs.Kept.{accepted}
-use Rattle.row_major.specs.Cells.{squareAnswer}
-use Rattle.cholesky.proofs.Calls.{square-fits, refused-early, refused-late, all-taken}
+use Rattle.grids.specs.Cells.{squareAnswer}
+use Rattle.factors.proofs.Calls.{square-fits, refused-early, refused-late, all-taken}
 use Rattle.cholesky.proofs.decompose.cholesky_decompose_lower.Statement.{statement}
 use Rattle.cholesky.proofs.decompose.cholesky_decompose_lower.Tie as tie
 

@@ -5,11 +5,11 @@ use native.Mathlib.Omega.{arith}
 use denote.Ref.{now}
 use lib.ListN.{length, length-set}
 use lib.Ieee.{ofBits}
-use Rattle.row_major.specs.Grid.{grid, cell}
-use Rattle.row_major.proofs.Grids.{row-in}
-use Rattle.cholesky.specs.Steps.{clearColumn}
-use Rattle.row_major.proofs.Steps.{upTo}
-use Rattle.cholesky.proofs.Triangle.{clear-start, clear-more, clear-end}
+use Rattle.grids.specs.Grid.{grid, cell}
+use Rattle.grids.proofs.Grids.{row-in}
+use Rattle.factors.specs.Steps.{clearColumn}
+use Rattle.grids.proofs.Steps.{upTo}
+use Rattle.factors.proofs.Triangle.{clear-start, clear-more, clear-end}
 use Rattle.cholesky.proofs.upper.clear_column.Statement.{statement}
 use Rattle.cholesky.proofs.upper.clear_column.Tie as tie
 

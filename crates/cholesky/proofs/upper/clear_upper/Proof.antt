@@ -4,8 +4,8 @@ use Prim.Native.Nat.{_≤_, _-_}
 use native.Mathlib.Omega.{arith}
 use denote.Ref.{now}
 use lib.ListN.{length}
-use Rattle.row_major.specs.Grid.{grid, cell}
-use Rattle.cholesky.proofs.Triangle.{lowerTo, upper-start, upper-more, upper-end}
+use Rattle.grids.specs.Grid.{grid, cell}
+use Rattle.factors.proofs.Triangle.{lowerTo, upper-start, upper-more, upper-end}
 use Rattle.cholesky.proofs.upper.clear_upper.Statement.{statement}
 use Rattle.cholesky.proofs.upper.clear_upper.Tie as tie
 

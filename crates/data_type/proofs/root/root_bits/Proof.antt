@@ -5,8 +5,8 @@ use Prim.Native.Nat.{_^_, _<_}
 use native.Mathlib.Omega.{arith}
 use borrow.Author.Needs.{needs}
 use lib.Ieee.{binary32}
-use Rattle.data_type.specs.Root.{nearRoot}
-use Rattle.data_type.proofs.Exists.{wide}
+use Rattle.numbers.specs.Root.{nearRoot}
+use Rattle.numbers.proofs.Exists.{wide}
 use Rattle.data_type.proofs.NearRoot.{wide-even, wide-odd, near-digits, wide-lt, bits-is}
 use Rattle.data_type.proofs.root.root_bits.Statement.{statement}
 use Rattle.data_type.proofs.root.root_bits.Tie as tie

@@ -3,8 +3,8 @@ use native.Mathlib.Omega.{arith}
 use borrow.Author.Needs.{needs}
 use denote.Ref.{now}
 use lib.Ieee.{binary32}
-use Rattle.row_major.specs.Grid.{cell}
-use Rattle.inverse.proofs.Downward.{both}
+use Rattle.grids.specs.Grid.{cell}
+use Rattle.factors.proofs.Downward.{both}
 use Rattle.inverse.proofs.cores.invert_cells.Statement.{statement}
 use Rattle.inverse.proofs.cores.invert_cells.Tie as tie
 

@@ -6,11 +6,11 @@ use native.Mathlib.Numerals.{add-one}
 use denote.Ref.{now}
 use lib.ListN.{length}
 use lib.Ieee.{binary32}
-use Rattle.row_major.specs.Grid.{grid, cell}
-use Rattle.row_major.proofs.Grids.{row-in}
-use Rattle.row_major.proofs.Grids.{grid-self}
-use Rattle.inverse.specs.Inverse.{solved}
-use Rattle.inverse.proofs.Upward.{solved-more}
+use Rattle.grids.specs.Grid.{grid, cell}
+use Rattle.grids.proofs.Grids.{row-in}
+use Rattle.grids.proofs.Grids.{grid-self}
+use Rattle.factors.specs.Inverse.{solved}
+use Rattle.factors.proofs.Upward.{solved-more}
 use Rattle.inverse.proofs.first_pass.solve.Statement.{statement}
 use Rattle.inverse.proofs.first_pass.solve.Tie as tie
 

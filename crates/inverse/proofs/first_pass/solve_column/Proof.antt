@@ -6,12 +6,12 @@ use borrow.Author.Needs.{needs}
 use denote.Ref.{now}
 use lib.ListN.{length, length-set}
 use lib.Ieee.{binary32}
-use Rattle.data_type.specs.Reciprocal.{recipOf}
-use Rattle.row_major.specs.Grid.{grid, cell}
-use Rattle.row_major.proofs.Grids.{row-in}
-use Rattle.row_major.proofs.Steps.{upTo}
-use Rattle.inverse.specs.Inverse.{solveColumn}
-use Rattle.inverse.proofs.Upward.{solve-start, solve-more, solve-end}
+use Rattle.numbers.specs.Reciprocal.{recipOf}
+use Rattle.grids.specs.Grid.{grid, cell}
+use Rattle.grids.proofs.Grids.{row-in}
+use Rattle.grids.proofs.Steps.{upTo}
+use Rattle.factors.specs.Inverse.{solveColumn}
+use Rattle.factors.proofs.Upward.{solve-start, solve-more, solve-end}
 use Rattle.inverse.proofs.first_pass.solve_column.Statement.{statement}
 use Rattle.inverse.proofs.first_pass.solve_column.Tie as tie
 

@@ -1,6 +1,6 @@
 -- `gates::squares` meets its contract: the tests are those of the definition, in its order. Assumes nothing.
 use borrow.Author.Needs.{needs}
-use Rattle.inverse.specs.Promise.{squaresAnswer}
+use Rattle.factors.specs.Inverted.{squaresAnswer}
 use Rattle.inverse.proofs.gates.squares.Statement.{statement}
 use Rattle.inverse.proofs.gates.squares.Tie as tie
 

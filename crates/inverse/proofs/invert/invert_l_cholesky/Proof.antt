@@ -2,7 +2,7 @@
 use mathlib.Core.Path.{sym, _∙_}
 use borrow.Author.Needs.{needs}
 use Rattle.answers.proofs.Kept.{accepted}
-use Rattle.inverse.proofs.Calls.{squares-fit}
+use Rattle.factors.proofs.InverseCalls.{squares-fit}
 use Rattle.inverse.proofs.invert.invert_l_cholesky.Statement.{statement}
 use Rattle.inverse.proofs.invert.invert_l_cholesky.Tie as tie
 

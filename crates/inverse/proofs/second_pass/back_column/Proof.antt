@@ -6,11 +6,11 @@ use borrow.Author.Needs.{needs}
 use denote.Ref.{now}
 use lib.ListN.{length, length-set}
 use lib.Ieee.{binary32}
-use Rattle.data_type.specs.Reciprocal.{recipOf}
-use Rattle.row_major.specs.Grid.{grid, cell}
-use Rattle.row_major.proofs.Grids.{row-in}
-use Rattle.inverse.specs.Inverse.{cross, backAt}
-use Rattle.inverse.proofs.Downward.{back-start, back-step, back-place}
+use Rattle.numbers.specs.Reciprocal.{recipOf}
+use Rattle.grids.specs.Grid.{grid, cell}
+use Rattle.grids.proofs.Grids.{row-in}
+use Rattle.factors.specs.Inverse.{cross, backAt}
+use Rattle.factors.proofs.Downward.{back-start, back-step, back-place}
 use Rattle.inverse.proofs.second_pass.back_column.Statement.{statement}
 use Rattle.inverse.proofs.second_pass.back_column.Tie as tie
 

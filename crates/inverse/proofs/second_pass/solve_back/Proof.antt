@@ -5,10 +5,10 @@ use native.Mathlib.Omega.{arith}
 use denote.Ref.{now}
 use lib.ListN.{length}
 use lib.Ieee.{binary32}
-use Rattle.row_major.specs.Grid.{grid, cell}
-use Rattle.row_major.proofs.Grids.{row-in}
-use Rattle.inverse.specs.Inverse.{back}
-use Rattle.inverse.proofs.Downward.{back-none, back-more}
+use Rattle.grids.specs.Grid.{grid, cell}
+use Rattle.grids.proofs.Grids.{row-in}
+use Rattle.factors.specs.Inverse.{back}
+use Rattle.factors.proofs.Downward.{back-none, back-more}
 use Rattle.inverse.proofs.second_pass.solve_back.Statement.{statement}
 use Rattle.inverse.proofs.second_pass.solve_back.Tie as tie
 

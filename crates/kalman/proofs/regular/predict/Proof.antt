@@ -3,7 +3,7 @@ use mathlib.Core.Path.{sym, _∙_}
 use denote.Ref.{now}
 use lib.ListN.{length}
 use Rattle.answers.proofs.Kept.{accepted}
-use Rattle.kalman.proofs.Shapes.{ShapeX, ShapeP, both-fit}
+use Rattle.filters.proofs.PredictionFits.{ShapeX, ShapeP, both-fit}
 use borrow.Author.Needs.{needs}
 use Rattle.kalman.proofs.regular.predict.Statement.{statement}
 use Rattle.kalman.proofs.regular.predict.Tie as tie

@@ -3,7 +3,7 @@ use mathlib.Core.Path.{sym, _∙_}
 use denote.Ref.{now}
 use lib.ListN.{length}
 use Rattle.answers.proofs.Kept.{accepted}
-use Rattle.kalman.proofs.Shapes.{ShapeP, p-fits}
+use Rattle.filters.proofs.PredictionFits.{ShapeP, p-fits}
 use borrow.Author.Needs.{needs}
 use Rattle.kalman.proofs.regular.predict_p.Statement.{statement}
 use Rattle.kalman.proofs.regular.predict_p.Tie as tie

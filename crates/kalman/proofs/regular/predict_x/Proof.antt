@@ -3,7 +3,7 @@ use mathlib.Core.Path.{sym, _∙_}
 use denote.Ref.{now}
 use lib.ListN.{length}
 use Rattle.answers.proofs.Kept.{accepted}
-use Rattle.kalman.proofs.Shapes.{ShapeX, x-fits}
+use Rattle.filters.proofs.PredictionFits.{ShapeX, x-fits}
 use borrow.Author.Needs.{needs}
 use Rattle.kalman.proofs.regular.predict_x.Statement.{statement}
 use Rattle.kalman.proofs.regular.predict_x.Tie as tie

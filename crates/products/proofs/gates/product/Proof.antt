@@ -1,26 +1,8 @@
 -- `gates::product` meets its contract: the tests are those of the definition, in its order. Assumes nothing.
 use borrow.Author.Needs.{needs}
-use Rattle.products.specs.Answers.{productAnswer}
+use Rattle.entries.specs.Answers.{productAnswer}
 use Rattle.products.proofs.gates.product.Statement.{statement}
 use Rattle.products.proofs.gates.product.Tie as tie
-
-then-size-requires : tie.Need-then-size-requires
-then-size-requires c κs = search needs
-
-then-size-requires-2 : tie.Need-then-size-requires-2
-then-size-requires-2 c κs = search needs
-
-then-size-requires-3 : tie.Need-then-size-requires-3
-then-size-requires-3 c κs = search needs
-
-then-matrix-requires : tie.Need-then-matrix-requires
-then-matrix-requires c κs = search needs
-
-then-matrix-requires-2 : tie.Need-then-matrix-requires-2
-then-matrix-requires-2 c κs = search needs
-
-then-matrix-requires-3 : tie.Need-then-matrix-requires-3
-then-matrix-requires-3 c κs = search needs
 
 returns : tie.Need-returns
 unfolding productAnswer
@@ -30,10 +12,10 @@ pub product-spec : {M : Type 1} → statement M
 product-spec =
     tie.close
     (tie.spec
-    then-size-requires
-    then-size-requires-2
-    then-size-requires-3
-    then-matrix-requires
-    then-matrix-requires-2
-    then-matrix-requires-3
+    (λ c κs. search needs)
+    (λ c κs. search needs)
+    (λ c κs. search needs)
+    (λ c κs. search needs)
+    (λ c κs. search needs)
+    (λ c κs. search needs)
     returns)

@@ -1,38 +1,26 @@
 -- `rowvector::multadd_rowvector` meets its contract: the gate's answer decides, and the core writes what the promise says. Assumes nothing.
-use mathlib.Core.Path.{sym, _∙_}
 use borrow.Author.Needs.{needs}
-use Rattle.answers.proofs.Kept.{accepted}
-use Rattle.products.proofs.Shapes.{row-fits}
+use Rattle.grids.proofs.Calls.{written-by, kept-by}
+use Rattle.entries.proofs.Shapes.{row-fits}
 use Rattle.products.proofs.rowvector.multadd_rowvector.Statement.{statement}
 use Rattle.products.proofs.rowvector.multadd_rowvector.Tie as tie
 
-row-requires : tie.Need-row-requires
-row-requires c κs = search needs
-
-is-done-requires : tie.Need-is-done-requires
-is-done-requires c κs = search needs
-
-rowvector-add-cells-requires : tie.Need-rowvector-add-cells-requires
-rowvector-add-cells-requires c κs =
-    let s = row-fits _ _ _ _ _ (accepted (c .before .before .before .row .ensures) (c .before .before .is-done .ensures) (c .before .if1 .taken)) in
-    (s .inner-least, s .holds-left, s .holds-right, s .holds-into)
-
-same-length : tie.Need-same-length
-same-length c = search needs
-
 returns : tie.Need-returns
-returns c = record { answer = c .before .before .before .before .before .before .row .ensures; after = simp (sym (c .before .before .before .before .before .is-done .ensures) ∙ c .before .before .before .before .if1 .taken) (c .before .before .rowvector-add-cells .ensures) }
+returns c =
+    let t = c .before .before .before .before in
+    let e = t .before .before .row .ensures in
+    record { answer = e; after = written-by _ e (t .before .is-done .ensures) (t .if1 .taken) (c .before .before .rowvector-add-cells .ensures) }
 
 returns-2 : tie.Need-returns-2
-returns-2 c = record { answer = c .before .before .row .ensures; after = simp (sym (c .before .is-done .ensures) ∙ c .if1 .left) }
+returns-2 c = let e = c .before .before .row .ensures in record { answer = e; after = kept-by _ e (c .before .is-done .ensures) (c .if1 .left) }
 
 pub multadd-rowvector-spec : {M : Type 1} → statement M
 multadd-rowvector-spec =
     tie.close
     (tie.spec
-    row-requires
-    is-done-requires
-    rowvector-add-cells-requires
-    same-length
+    (λ c κs. search needs)
+    (λ c κs. search needs)
+    (λ c κs. row-fits _ _ _ _ _ (c .before .before .before .row .ensures) (c .before .before .is-done .ensures) (c .before .if1 .taken))
+    (λ c. search needs)
     returns
     returns-2)

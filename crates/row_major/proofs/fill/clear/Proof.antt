@@ -4,15 +4,14 @@ use lib.Ieee.{ofBits}
 use Rattle.row_major.proofs.fill.clear.Statement.{statement}
 use Rattle.row_major.proofs.fill.clear.Tie as tie
 
-set-all-requires : tie.Need-set-all-requires
-set-all-requires c κs = search needs
-
-same-length : tie.Need-same-length
-same-length c = search needs
-
 returns : tie.Need-returns
 unfolding ofBits
 returns c = c .before .before .set-all .ensures
 
 pub clear-spec : {M : Type 1} → statement M
-clear-spec = tie.close (tie.spec set-all-requires same-length returns)
+clear-spec =
+    tie.close
+    (tie.spec
+    (λ c κs. search needs)
+    (λ c. search needs)
+    returns)

@@ -4,15 +4,14 @@ use lib.Ieee.{ofBits}
 use Rattle.row_major.proofs.fill.make_identity.Statement.{statement}
 use Rattle.row_major.proofs.fill.make_identity.Tie as tie
 
-make-comatrix-requires : tie.Need-make-comatrix-requires
-make-comatrix-requires c κs = search needs
-
-same-length : tie.Need-same-length
-same-length c = search needs
-
 returns : tie.Need-returns
 unfolding ofBits
 returns c = c .before .before .make-comatrix .ensures
 
 pub make-identity-spec : {M : Type 1} → statement M
-make-identity-spec = tie.close (tie.spec make-comatrix-requires same-length returns)
+make-identity-spec =
+    tie.close
+    (tie.spec
+    (λ c κs. search needs)
+    (λ c. search needs)
+    returns)

@@ -1,0 +1,2 @@
+-- The law behind the contract of `yurgamysh_get`.
+pub mod Reading

@@ -1,0 +1,2 @@
+-- What refusal 4 carries in a code.
+pub mod Pivots

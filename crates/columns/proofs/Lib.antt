@@ -1,0 +1,2 @@
+-- The law that belongs to no one function: a column more.
+pub mod Stepping

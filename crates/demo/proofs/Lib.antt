@@ -1,5 +1,0 @@
--- Laws that belong to no one function.
-mod Stepping
-mod Counting
-mod Fractions
-mod Patterns

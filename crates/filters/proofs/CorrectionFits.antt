@@ -1,0 +1,118 @@
+-- The gates' tests one after the other, and what it says that a call is not refused with 1 or 2: the sizes are 1 to 16, and the buffers hold their matrices. Assumes nothing.
+use mathlib.Core.Path.{_≡_, ap, _∙_}
+use mathlib.Core.Bool.{true}
+use mathlib.Core.List.{List, [], _∷_, _++_}
+use Prim.Native.Nat.{ℕ, suc, _+_, _*_, _≤_}
+use native.Mathlib.Omega.{arith}
+use lib.ListN.{length}
+use lib.Ieee.{Float}
+use Rattle.answers.specs.declared.Answer.{Answer}
+use Rattle.answers.specs.Answers.{isDone, firstOf}
+use Rattle.answers.specs.Tests.{bufferTest, bufferTests, afterTests, lent}
+use Rattle.answers.proofs.Fit as fits
+use Rattle.answers.proofs.Fit.{fit}
+use Rattle.filters.specs.Lent.{Buffers, buffers, fromR, frontOf, fromROf, correctAnswer, updateAnswer, innovationAnswer, Held}
+
+-- A test after others: the first refusal of them all stays.
+pub after : (v u w : Answer) {v' : Answer} → v' ≡ firstOf v w → v ≡ u → v' ≡ firstOf u w
+after v u w e q = e ∙ ap (λ (x : Answer). firstOf x w) q
+
+-- So for the test of a buffer whose index is said in another way.
+then-asked : (v u : Answer) (i j cells len : ℕ) {v' : Answer} → v' ≡ firstOf v (bufferTest i cells len) → i ≡ j → v ≡ u → v' ≡ firstOf u (bufferTest j cells len)
+then-asked v u i j cells len e q p = e ∙ rw (q, p)
+
+-- The tests of the buffers from R on, which has the index i, one after the other.
+pub from-r-asked : (n m R y S K S-inv HP PHt KHP i : ℕ) (v : Answer) {v₁ v₂ v₃ v₄ v₅ v₆ v₇ v₈ : Answer}
+    → v₁ ≡ firstOf v (bufferTest i (m * m) R)
+    → v₂ ≡ firstOf v₁ (bufferTest (i + 1) m y)
+    → v₃ ≡ firstOf v₂ (bufferTest (i + 2) (m * m) S)
+    → v₄ ≡ firstOf v₃ (bufferTest (i + 3) (n * m) K)
+    → v₅ ≡ firstOf v₄ (bufferTest (i + 4) (m * m) S-inv)
+    → v₆ ≡ firstOf v₅ (bufferTest (i + 5) (m * n) HP)
+    → v₇ ≡ firstOf v₆ (bufferTest (i + 6) (n * m) PHt)
+    → v₈ ≡ firstOf v₇ (bufferTest (i + 7) (n * n) KHP)
+    → v₈ ≡ afterTests v (bufferTests i (fromR n m R y S K S-inv HP PHt KHP))
+from-r-asked n m R y S K S-inv HP PHt KHP i v e₁ e₂ e₃ e₄ e₅ e₆ e₇ e₈ =
+    let i₁ = suc i in
+    let i₂ = suc i₁ in
+    let i₃ = suc i₂ in
+    let i₄ = suc i₃ in
+    let i₅ = suc i₄ in
+    let i₆ = suc i₅ in
+    let i₇ = suc i₆ in
+    then-asked _ _ (i + 7) i₇ (n * n) KHP e₈ (omega arith)
+    (then-asked _ _ (i + 6) i₆ (n * m) PHt e₇ (omega arith)
+    (then-asked _ _ (i + 5) i₅ (m * n) HP e₆ (omega arith)
+    (then-asked _ _ (i + 4) i₄ (m * m) S-inv e₅ (omega arith)
+    (then-asked _ _ (i + 3) i₃ (n * m) K e₄ (omega arith)
+    (then-asked _ _ (i + 2) i₂ (m * m) S e₃ (omega arith)
+    (then-asked _ _ (i + 1) i₁ m y e₂ (omega arith)
+    e₁))))))
+
+-- n states and m observations; x, H, z and y of so many numbers
+pub record Observed (n m lx lh lz ly : ℕ) : Type 0 where
+  pub states : 1 ≤ n
+  pub x-holds : n ≤ lx
+  pub H-holds : m * n ≤ lh
+  pub z-holds : m ≤ lz
+  pub y-holds : m ≤ ly
+
+-- the sizes, x, P, H, and the buffers from R on
+held : (n m : ℕ) (b : Buffers) → fits.Sizes (n ∷ m ∷ []) → n ≤ length (b .x) → n * n ≤ length (b .P) → m * n ≤ length (b .H) → fits.Buffers (fromROf n m b) → Held n m b
+held n m b s x P H l =
+    let k = l .1 .1 .1 .1 in
+    record {
+      states = s .0;
+      observations = s .2 .0;
+      x-holds = x;
+      P-holds = P;
+      H-holds = H;
+      R-holds = l .0;
+      y-holds = l .1 .0;
+      S-holds = l .1 .1 .0;
+      K-holds = l .1 .1 .1 .0;
+      S-inv-holds = k .0;
+      HP-holds = k .1 .0;
+      PHt-holds = k .1 .1 .0;
+      KHP-holds = k .1 .1 .1 .0;
+    }
+
+-- Where the answer for an innovation is done, its buffers hold what they are to hold.
+pub innovation-fits : (n m lx lh lz ly : ℕ) → isDone (innovationAnswer n m lx lh lz ly) ≡ true → Observed n m lx lh lz ly
+unfolding innovationAnswer
+innovation-fits n m lx lh lz ly e =
+    let h = fit (n ∷ m ∷ []) (lent n lx ∷ lent (m * n) lh ∷ lent m lz ∷ lent m ly ∷ []) [] e in
+    let l = h .1 in
+    record { states = h .0 .0; x-holds = l .0; H-holds = l .1 .0; z-holds = l .1 .1 .0; y-holds = l .1 .1 .1 .0 }
+
+-- So for an update.
+pub update-fits : (n m : ℕ) (b : Buffers) → isDone (updateAnswer n m b) ≡ true → Held n m b
+unfolding updateAnswer
+update-fits n m b e =
+    let h = fit (n ∷ m ∷ []) (frontOf n m b ++ fromROf n m b) [] e in
+    held n m b (h .0) (h .1 .0) (h .1 .1 .0) (h .1 .1 .1 .0) (h .1 .1 .1 .1)
+
+-- So for a correction, of which z is one buffer more.
+pub correct-fits : (n m : ℕ) (b : Buffers) → isDone (correctAnswer n m b) ≡ true → Held n m b × (m ≤ length (b .z))
+unfolding correctAnswer
+correct-fits n m b e =
+    let h = fit (n ∷ m ∷ []) (frontOf n m b ++ lent m (length (b .z)) ∷ fromROf n m b) [] e in
+    (held n m b (h .0) (h .1 .0) (h .1 .1 .0) (h .1 .1 .1 .0) (h .1 .1 .1 .1 .1), h .1 .1 .1 .1 .0)
+
+-- The buffers hold what they are to hold with another y that is long enough, and whatever z is.
+pub held-with : (n m : ℕ) (b : Buffers) (y z : List Float) → Held n m b → m ≤ length y → Held n m (buffers (b .x) (b .P) (b .H) z (b .R) y (b .S) (b .K) (b .S-inv) (b .HP) (b .PHt) (b .KHP))
+held-with n m b y z h l = record {
+  states = h .states;
+  observations = h .observations;
+  x-holds = h .x-holds;
+  P-holds = h .P-holds;
+  H-holds = h .H-holds;
+  R-holds = h .R-holds;
+  y-holds = l;
+  S-holds = h .S-holds;
+  K-holds = h .K-holds;
+  S-inv-holds = h .S-inv-holds;
+  HP-holds = h .HP-holds;
+  PHt-holds = h .PHt-holds;
+  KHP-holds = h .KHP-holds;
+}

@@ -1,0 +1,11 @@
+-- Laws of them, over the format: of the steps one after the other, of calls that are not refused, of what a call leaves; and what the promises say further (Theorems, Refused, Exactly, OnlyUpperR).
+pub mod Writes
+pub mod PredictionFits
+pub mod PredictionUnique
+pub mod Steps
+pub mod CorrectionFits
+pub mod Calls
+pub mod Theorems
+pub mod Refused
+pub mod Exactly
+pub mod OnlyUpperR

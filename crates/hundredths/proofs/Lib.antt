@@ -1,0 +1,3 @@
+-- Laws of `in_hundredths`.
+mod Fractions
+mod Patterns

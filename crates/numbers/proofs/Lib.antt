@@ -1,0 +1,9 @@
+-- Laws of them, over the format: of square roots of whole numbers, of the root of a float, of sums, of whole-number floats.
+pub mod Floor
+pub mod Unique
+pub mod Exists
+pub mod Nearest
+pub mod Same
+pub mod Exact
+pub mod Sums
+pub mod Commute

@@ -1,0 +1,7 @@
+-- The definitions of single numbers, over the format: the reciprocal, the square root and what makes it the nearest, sums in their order, whole numbers.
+pub mod Reciprocal
+pub mod Root
+pub mod Nearer
+pub mod Pattern
+pub mod Sums
+pub mod Whole

@@ -1,0 +1,28 @@
+-- When a general correction at n = m = 1 and the correction of a record agree. Definitions only.
+use mathlib.Core.Path.{_≡_}
+use mathlib.Core.Bool.{true}
+use mathlib.Core.Logic.{_⊎_}
+use mathlib.Core.List.{List}
+use Prim.Native.Nat.{ℕ}
+use lib.ListN.{getD}
+use lib.Ieee.{Float, nan}
+use Rattle.answers.specs.declared.Answer.{Answer}
+use Rattle.answers.specs.declared.Answer.the-variants.{Done, Pivot}
+use Rattle.answers.specs.Answers.{isDone}
+use Rattle.filters.specs.Lent.{Buffers}
+use Rattle.one_state.specs.declared.OneState.{OneState}
+use Rattle.one_state.specs.declared.Corrected.the-variants.{Accepted, Refused}
+use Rattle.one_state.specs.OneState.{withXP, corrected}
+
+-- the number in front of a buffer
+abbrev pub front : List Float → Float
+front l = getD l 0 nan
+
+-- A general correction at n = m = 1 of the buffers b, which answers v and leaves e, agrees with the correction of the record s by the reading z.
+pub record Agrees (s : OneState) (z : Float) (b : Buffers) (v : Answer) (e : Buffers) : Type 0 where
+  -- where it is done the record comes back accepted, with the x and p that stand in front of its buffers, and no other member changed
+  pub done : isDone v ≡ true → corrected s z ≡ Accepted (withXP s (front (e .x)) (front (e .P)))
+  -- where it is refused with 4 the pivot is 0, the record comes back refused and unchanged, and so are x and P
+  pub pivot : (i : ℕ) → v ≡ Pivot i → (i ≡ 0) × (corrected s z ≡ Refused s 0) × (e .x ≡ b .x) × (e .P ≡ b .P)
+  -- it answers nothing else
+  pub only : (v ≡ Done) ⊎ (v ≡ Pivot 0)

@@ -1,0 +1,2 @@
+-- The definition that the contract cites: the pivot step, by its cases.
+pub mod Pivots

@@ -1,0 +1,122 @@
+-- `correct` meets its contract: the gate's answer decides; past it y is the innovation, and the update reads it. Assumes nothing.
+use mathlib.Core.Path.{_≡_, sym, _∙_}
+use mathlib.Core.Bool.{true}
+use mathlib.Core.List.{[]}
+use native.Mathlib.Omega.{arith}
+use denote.Ref.{now}
+use lib.Ieee.{binary32}
+use Rattle.answers.specs.Answers.{isDone}
+use Rattle.answers.proofs.Kept.{accepted}
+use Rattle.filters.specs.Lent.{Buffers, buffers, correctAnswer}
+use Rattle.filters.proofs.CorrectionFits.{correct-fits, held-with}
+use Rattle.filters.proofs.Calls.{correct-past, correct-refused}
+use Rattle.readings.proofs.correct.Statement.{statement}
+use Rattle.readings.proofs.correct.Tie as tie
+
+-- ---- the way back from each call to the one before it
+
+abbrev start : tie.After-correction → tie.Start
+start c = c .before .before .before .before .before .before .before .before .before .before .before .before .before
+
+abbrev gate : tie.Then1 → tie.After-correction
+gate c = c .before .before
+
+abbrev then : tie.After-innovate-cells → tie.Then1
+then c = c .before .before .before
+
+abbrev innovated : tie.After-update-cells → tie.After-innovate-cells
+innovated c = c .before .before .before .before .before .before .before .before .before .before .before .before
+
+-- the buffers as lent
+abbrev lent : tie.Start → Buffers
+lent s =
+    let a = s .args in
+    buffers (now (a .x)) (now (a .p)) (now (a .h)) (now (a .z)) (now (a .r)) (now (a .y)) (now (a .s)) (now (a .k)) (now (a .temp-s-inv)) (now (a .temp-hp)) (now (a .temp-pht)) (now (a .temp-khp))
+
+-- the answer at the door
+answered : (c : tie.After-correction) → let s = start c in c .correction .result ≡ correctAnswer (s .args .n) (s .args .m) (lent s)
+unfolding correctAnswer
+answered c = c .correction .ensures
+
+-- the sizes are taken and the buffers hold their matrices
+done : (c : tie.Then1) → let s = start (gate c) in isDone (correctAnswer (s .args .n) (s .args .m) (lent s)) ≡ true
+done c = accepted (answered (gate c)) (c .before .is-done .ensures) (c .if1 .taken)
+
+correction-requires : tie.Need-correction-requires
+correction-requires c κs = tt
+
+is-done-requires : tie.Need-is-done-requires
+is-done-requires c κs = tt
+
+innovate-cells-requires : tie.Need-innovate-cells-requires
+innovate-cells-requires c κs =
+    let t = c .before .before in
+    let h = correct-fits _ _ (lent (start (gate t))) (done t) in
+    (h .0 .states, h .0 .x-holds, h .0 .H-holds, h .1, h .0 .y-holds)
+
+update-cells-requires : tie.Need-update-cells-requires
+update-cells-requires c κs =
+    let t = then (c .before .before .before .before .before .before .before .before .before .before .before) in
+    let h = correct-fits _ _ (lent (start (gate t))) (done t) .0 in
+    held-with _ _ (lent (start (gate t))) _ [] h (omega (arith, h .y-holds))
+
+same-length : tie.Need-same-length
+same-length c = omega arith
+
+same-length-2 : tie.Need-same-length-2
+same-length-2 c = omega arith
+
+same-length-3 : tie.Need-same-length-3
+same-length-3 c = omega arith
+
+same-length-4 : tie.Need-same-length-4
+same-length-4 c = omega arith
+
+same-length-5 : tie.Need-same-length-5
+same-length-5 c = omega arith
+
+same-length-6 : tie.Need-same-length-6
+same-length-6 c = omega arith
+
+same-length-7 : tie.Need-same-length-7
+same-length-7 c = omega arith
+
+same-length-8 : tie.Need-same-length-8
+same-length-8 c = omega arith
+
+same-length-9 : tie.Need-same-length-9
+same-length-9 c = omega arith
+
+returns : tie.Need-returns
+returns c =
+    let u = c .before .before .before .before .before .before .before .before .before .before .before .before .before .before .before .before in
+    let i = innovated u in
+    let t = then i in
+    let s = start (gate t) in
+    correct-past binary32 (s .args .n) (s .args .m) (lent s) _ _ [] (done t) (i .innovate-cells .ensures) (u .update-cells .ensures)
+
+returns-2 : tie.Need-returns-2
+returns-2 c =
+    let g = c .before .before in
+    let s = start g in
+    correct-refused binary32 (s .args .n) (s .args .m) (lent s) _ (answered g) (sym (c .before .is-done .ensures) ∙ c .if1 .left)
+
+pub correct-spec : {M : Type 1} → statement M
+correct-spec =
+    tie.close
+    (tie.spec
+    correction-requires
+    is-done-requires
+    innovate-cells-requires
+    update-cells-requires
+    same-length
+    same-length-2
+    same-length-3
+    same-length-4
+    same-length-5
+    same-length-6
+    same-length-7
+    same-length-8
+    same-length-9
+    returns
+    returns-2)

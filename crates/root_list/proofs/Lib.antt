@@ -1,0 +1,3 @@
+-- Laws that belong to no one function.
+mod Reading
+pub mod Counting

@@ -1,0 +1,4 @@
+-- The definitions that the contracts cite.
+pub mod Readings
+pub mod Step
+pub mod Tally

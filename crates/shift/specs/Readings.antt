@@ -1,0 +1,17 @@
+-- What the wire brings in each step of the shift. Definitions only.
+use mathlib.Core.Path.{_≡_}
+use mathlib.Core.Bool.{cond}
+use Prim.Native.Nat.{ℕ}
+use lib.Dec.{eqb}
+use lib.Ieee.{Float, nan, binary32, ofBits}
+use Rattle.shift.specs.declared.readings.Reading.{Reading}
+use Rattle.shift.specs.declared.readings.Reading.the-variants.{Arrived, Lost}
+
+-- the noise R in step n, counted from 0: 4, and in step 11 not a number
+abbrev pub noiseIn : ℕ → Float
+noiseIn n = cond (eqb n 11) nan (ofBits binary32 0x40800000)
+
+-- nothing arrives in step 6, and in each other step a reading with its noise
+abbrev pub Brings : ℕ → Reading → Type 0
+Brings n Lost = n ≡ 6
+Brings n (Arrived z r) = (n ≡ 6 → ⊥) × (r ≡ noiseIn n)

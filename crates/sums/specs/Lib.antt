@@ -1,2 +1,0 @@
--- The definitions that the contracts cite: what the sums and differences promise.
-pub mod Sums

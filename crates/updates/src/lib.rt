@@ -1,0 +1,83 @@
+// The steps of a correction, for the crates above, which have tested sizes and buffers; not for users:
+// the innovation, the residual's covariance, the gain, and x and P anew.
+ghost use mathlib.Core.Path.{_≡_};
+ghost use Prim.Native.Nat.{_*_, _≤_};
+ghost use lib.ListN.{length};
+ghost use lib.Ieee.{binary32, sub};
+ghost use Rattle.grids.specs.Grid.{cell, run, grid};
+ghost use Rattle.entries.specs.Entries.{times, numbers};
+ghost use Rattle.factors.specs.Inverse.{inverse};
+ghost use Rattle.filters.specs.Correction.{innovationOf, HPOf, factorOf, pivotOf, PHtOf, newX};
+
+// y = z − H·x.
+pub fn innovate_cells(n: usize, m: usize, x: &[f32], h: &[f32], z: &[f32], y: &mut [f32])
+    requires { ⌜ (1 ≤ n) × (n ≤ length (now x)) × (m * n ≤ length (now h)) × (m ≤ length (now z)) × (m ≤ length (now y)) ⌝ }
+    ensures { λ _. ⌜ now (y .exit) ≡ run 0 m (innovationOf binary32 n (cell n (now (h .entry))) (numbers (now (x .entry))) (numbers (now (z .entry)))) (now (y .entry)) ⌝ }
+{
+    times_vector::rowvector_cells(m, n, h, x, y);
+    sums::cores::sub_cells_b(m, z, y);
+}
+
+// temp_HP = H·P, and S = temp_HP·Hᵀ + R decomposed: the index of the pivot that is refused comes
+// back, or m.
+pub fn residual_cells(
+    n: usize,
+    m: usize,
+    p: &[f32],
+    h: &[f32],
+    r: &[f32],
+    s: &mut [f32],
+    temp_hp: &mut [f32],
+) -> usize
+    requires { ⌜ (1 ≤ n) × (n * n ≤ length (now p)) × (m * n ≤ length (now h)) × (m * m ≤ length (now r)) × (m * m ≤ length (now s)) × (m * n ≤ length (now «temp_hp»)) ⌝ }
+    ensures index { λ i. ⌜ i ≡ pivotOf binary32 n m (cell n (now (h .entry))) (cell n (now (p .entry))) (cell m (now (r .entry))) ⌝ }
+    ensures hp { λ _. ⌜ now («temp_hp» .exit) ≡ grid m n (HPOf binary32 n (cell n (now (h .entry))) (cell n (now (p .entry)))) (now («temp_hp» .entry)) ⌝ }
+    ensures s { λ _. ⌜ now (s .exit) ≡ grid m m (factorOf binary32 n m (cell n (now (h .entry))) (cell n (now (p .entry))) (cell m (now (r .entry)))) (now (s .entry)) ⌝ }
+{
+    times_matrix::mult_cells(m, n, n, h, p, temp_hp);
+    times_transpose::transb_cells(m, n, m, temp_hp, h, s);
+    sums::cores::add_cells_a(m * m, s, r);
+    cholesky::cores::decompose_cells(m, s)
+}
+
+// temp_S_inv = the inverse from the factor in S, temp_PHt = P·Hᵀ, and K = temp_PHt·temp_S_inv.
+pub fn gain_cells(
+    n: usize,
+    m: usize,
+    p: &[f32],
+    h: &[f32],
+    s: &[f32],
+    k: &mut [f32],
+    temp_s_inv: &mut [f32],
+    temp_pht: &mut [f32],
+)
+    requires { ⌜ (1 ≤ n) × (n * n ≤ length (now p)) × (m * n ≤ length (now h)) × (m * m ≤ length (now s)) × (n * m ≤ length (now k)) × (m * m ≤ length (now «temp_s_inv»)) × (n * m ≤ length (now «temp_pht»)) ⌝ }
+    ensures inverse { λ _. ⌜ now («temp_s_inv» .exit) ≡ grid m m (inverse binary32 m (cell m (now (s .entry))) (cell m (now («temp_s_inv» .entry)))) (now («temp_s_inv» .entry)) ⌝ }
+    ensures pht { λ _. ⌜ now («temp_pht» .exit) ≡ grid n m (PHtOf binary32 n (cell n (now (h .entry))) (cell n (now (p .entry)))) (now («temp_pht» .entry)) ⌝ }
+    ensures k { λ _. ⌜ now (k .exit) ≡ grid n m (times binary32 m (PHtOf binary32 n (cell n (now (h .entry))) (cell n (now (p .entry)))) (inverse binary32 m (cell m (now (s .entry))) (cell m (now («temp_s_inv» .entry))))) (now (k .entry)) ⌝ }
+{
+    inverse::cores::invert_cells(m, s, temp_s_inv);
+    times_transpose::transb_cells(n, n, m, p, h, temp_pht);
+    times_matrix::mult_cells(n, m, m, temp_pht, temp_s_inv, k);
+}
+
+// x = x + K·y, temp_KHP = K·temp_HP, and P = P − temp_KHP.
+pub fn renew_cells(
+    n: usize,
+    m: usize,
+    x: &mut [f32],
+    p: &mut [f32],
+    y: &[f32],
+    k: &[f32],
+    temp_hp: &[f32],
+    temp_khp: &mut [f32],
+)
+    requires { ⌜ (1 ≤ m) × (n ≤ length (now x)) × (n * n ≤ length (now p)) × (m ≤ length (now y)) × (n * m ≤ length (now k)) × (m * n ≤ length (now «temp_hp»)) × (n * n ≤ length (now «temp_khp»)) ⌝ }
+    ensures x { λ _. ⌜ now (x .exit) ≡ run 0 n (newX binary32 m (cell m (now (k .entry))) (numbers (now (x .entry))) (numbers (now (y .entry)))) (now (x .entry)) ⌝ }
+    ensures khp { λ _. ⌜ now («temp_khp» .exit) ≡ grid n n (times binary32 m (cell m (now (k .entry))) (cell n (now («temp_hp» .entry)))) (now («temp_khp» .entry)) ⌝ }
+    ensures p { λ _. ⌜ now (p .exit) ≡ grid n n (λ i j. sub binary32 (cell n (now (p .entry)) i j) (times binary32 m (cell m (now (k .entry))) (cell n (now («temp_hp» .entry))) i j)) (now (p .entry)) ⌝ }
+{
+    times_vector::rowvector_add_cells(n, m, k, y, x);
+    times_matrix::mult_cells(n, m, n, k, temp_hp, temp_khp);
+    sums::cores::sub_cells_a(n * n, p, temp_khp);
+}
