@@ -1,28 +1,37 @@
-# The few commands that a person types. The place of the original's files, for `compare` and `bench`,
-# goes into MINIKALMAN_SRC.
-.PHONY: demo test compare bench lib bindings
+# The few commands that a person types. `compare` and `bench` want the place of the original's files in
+# MINIKALMAN_SRC.
+.PHONY: help kit demo prove test costs compare bench lib bindings
+.DEFAULT_GOAL := help
 
-# A feeder's shift, proved and run: a table of readings, estimates and answers.
-demo:
-	@rt check demo
+help: ## these lines
+	@awk -F ':.*## ' '/^[a-z]+:.*## / { printf "make %-9s %s\n", $$1, $$2 }' Makefile
+
+kit:
+	@sh checks/kit.sh
+
+demo: kit ## a feeder's shift, proved and run: a table of readings, estimates and answers
+	@bash checks/quiet.sh target/demo.log demo
+	@echo
 	@cat target/log/demo.stdout
 
-# The gate: proofs, wrong programs that must be refused, runs.
-test:
+prove: kit ## every crate that has changed, a line for each
+	@bash checks/quiet.sh target/prove.log
+
+test: kit ## the gate: proofs from nothing, wrong programs that must be refused, runs
 	@bash .ci/run
 
-# The Rust's own answers, bit for bit, at scale.
-compare:
+costs: ## what each crate and each edit cost in the last gate
+	@sh checks/costs.sh
+
+compare: kit ## the Rust's own answers, bit for bit, at scale (MINIKALMAN_SRC, rustc)
 	@bash oracle/compare.sh
 
-# Ours and the Rust, side by side, in nanoseconds.
-bench:
+bench: kit ## ours and the Rust, side by side, in nanoseconds (MINIKALMAN_SRC, rustc)
 	@bash bench/run.sh
 
-# The archive for C and Rust: target/lib/libyurgamysh.a.
-lib:
+lib: kit ## the archive for C and Rust: target/lib/libyurgamysh.a
 	@sh lib/build.sh
 
-# Calls from C, C++ and Rust, every function and every refusal.
-bindings:
+bindings: ## calls from C, C++ and Rust, every function and every refusal (a C compiler, cargo)
+	@[ -f target/lib/libyurgamysh.a ] || sh checks/kit.sh
 	@sh checks/bindings.sh

@@ -1,9 +1,9 @@
 #!/usr/bin/env bash
 # Builds ours and the original for this machine, compares their results and measures both in one run:
-#   MINIKALMAN_SRC=folder bash bench/run.sh [folder] [--plot]
+#   MINIKALMAN_SRC=folder bash bench/run.sh [folder] [--plot] [--bars]
 # The folder holds src/matrix/traits.rs or matrix/traits.rs of minikalman 0.8.1, and its neighbours.
-# Everything that is built or drawn lies in target/bench. The exit status is 0 where every bar holds,
-# 1 where one does not, and 2 where nothing could be measured.
+# Everything that is built or drawn lies in target/bench. The exit status is 0 where it was measured and
+# 2 where it could not be; with --bars it is 1 where a bar of bench/README.md is not met.
 set -eu
 
 here=$(cd "$(dirname "$0")" && pwd)
@@ -12,16 +12,17 @@ out=$root/target/bench
 
 die() { echo "bench/run.sh: $*" >&2; exit 2; }
 
-given=${MINIKALMAN_SRC:-} plot=''
+given=${MINIKALMAN_SRC:-} plot='' bars=''
 for word in "$@"; do
   case $word in
     --plot) plot=yes ;;
-    -*) die "'$word' is not known: bench/run.sh [folder] [--plot]" ;;
+    --bars) bars=--bars ;;
+    -*) die "'$word' is not known: bench/run.sh [folder] [--plot] [--bars]" ;;
     *) given=$word ;;
   esac
 done
 
-command -v rt >/dev/null || die "'rt' of the Rattle kit is not on the PATH."
+sh "$root/checks/kit.sh" || exit 2
 command -v rustc >/dev/null || die "rustc is missing."
 [ -n "$given" ] || die "where are the files of minikalman 0.8.1? Set MINIKALMAN_SRC or give the folder as an argument."
 [ -d "$given" ] || die "'$given' is no folder."
@@ -40,9 +41,11 @@ mkdir -p "$out" target/oracle
 [ "$(readlink target/oracle/files 2>/dev/null || true)" = "$files" ] || { rm -f target/oracle/files; ln -s "$files" target/oracle/files; }
 
 # On a machine that is no x86-64 this is the proved bitcode compiled for it.
+echo "proving and building the archive; target/bench/lib.log has what is said of it"
 sh lib/build.sh >"$out/lib.log" 2>&1 || { tail -20 "$out/lib.log" >&2; die "the archive was not built; target/bench/lib.log has it whole."; }
 tail -n 1 "$out/lib.log"
 
+echo "building both sides, comparing and measuring them: a minute"
 flags='--edition 2021 -C opt-level=3 -C codegen-units=1 -C debuginfo=0'
 rustc $flags --crate-type rlib --crate-name num_traits oracle/num_traits/lib.rs -o "$out/libnum_traits.rlib"
 rustc $flags --crate-type rlib --crate-name minikalman --cfg 'feature="std"' \
@@ -50,13 +53,18 @@ rustc $flags --crate-type rlib --crate-name minikalman --cfg 'feature="std"' \
 rustc $flags --crate-type bin --crate-name bench -L "$out" --extern minikalman="$out/libminikalman.rlib" \
   -C link-arg="$root/target/lib/libyurgamysh.a" bench/src/main.rs -o "$out/bench"
 
-echo "processor: $(sed -n 's/^model name[^:]*: //p' /proc/cpuinfo | head -1), family $(sed -n 's/^cpu family[^:]*: //p' /proc/cpuinfo | head -1), model $(sed -n 's/^model[[:space:]]*: //p' /proc/cpuinfo | head -1), $(nproc) cores; load $(cut -d' ' -f1 /proc/loadavg)"
+# What /proc/cpuinfo says, or on Arm, where it gives no name, lscpu.
+cpu() { sed -n "s/^$1[[:space:]]*: //p" /proc/cpuinfo | head -1; }
+processor=$(cpu 'model name')
+[ -z "$processor" ] || processor="$processor, family $(cpu 'cpu family'), model $(cpu model)"
+[ -n "$processor" ] || processor="$(uname -m) $(lscpu 2>/dev/null | sed -n 's/^Model name: *//p' | head -1)"
+echo "processor: $processor, $(nproc) cores; load $(cut -d' ' -f1 /proc/loadavg)"
 echo "kernel: $(uname -sr)"
 echo "compilers: $(rustc --version); $(rt version)"
 echo "date: $(date -u +%Y-%m-%d)"
 echo
 status=0
-"$out/bench" --data "$out/figures.tsv" || status=$?
+"$out/bench" $bars --data "$out/figures.tsv" || status=$?
 [ "$status" -le 1 ] || die "nothing was measured."
 
 if [ -n "$plot" ] && ! command -v gnuplot >/dev/null; then

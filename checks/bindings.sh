@@ -164,18 +164,21 @@ cd "$root" || exit 2
 out=$root/target/bindings
 rm -rf "$out"
 mkdir -p "$out"
+built=yes
 if [ $# -gt 0 ]; then
     folder=$(CDPATH='' cd -- "$1" && pwd -P) || exit 2
 else
     folder=$root/target/lib
     if has rt; then
-        run 'lib/build.sh' sh lib/build.sh && ok "$(tail -n 1 "$out/said")"
+        if run 'lib/build.sh' sh lib/build.sh; then ok "$(tail -n 1 "$out/said")"; else built=; fi
     else
         skip 'building the archive: rt is not on the PATH'
     fi
 fi
 archive=$folder/libyurgamysh.a
-if [ -f "$archive" ]; then
+if [ -z "$built" ]; then
+    skip 'all the rest: an archive that stands there is from before'
+elif [ -f "$archive" ]; then
     compare_lists
     test_language gcc -std=c99
     test_language g++ -std=c++11 -x c++

@@ -2,11 +2,11 @@
 # Compares the proved square root and reciprocal with the processor's on all 2^32 bit patterns of
 # an f32, any NaN equal to any other NaN.
 #
-#   checks/every_root.sh                all of them: 46 seconds on two cores with little else to do
+#   checks/every_root.sh                all of them: 22 seconds on two cores with little else to do
 #   checks/every_root.sh FROM COUNT     COUNT patterns from FROM on, as 0x3f800000 1000000
 #
-# It proves kalman_c, links its archive with checks/every_root.c and runs that. Everything that it
-# writes is under target/. The exit status is 0 where nothing differs.
+# It builds the archive (lib/build.sh), links it with checks/every_root.c and runs that. Everything that
+# it writes is under target/. The exit status is 0 where nothing differs.
 set -eu
 
 fail() {
@@ -15,13 +15,12 @@ fail() {
 }
 
 root=$(CDPATH='' cd -- "$(dirname -- "$0")/.." && pwd)
-[ "$(uname -m)" = x86_64 ] || fail "this is $(uname -m), and the archive is for x86-64"
-command -v rt >/dev/null || fail "rt is not on the path"
+[ "$(uname -m)" = x86_64 ] || fail "this is $(uname -m), and the answers are held to an x86-64 processor's"
 command -v gcc >/dev/null || fail "gcc is not on the path"
 
 cd "$root"
-rt staticlib kalman_c
+sh lib/build.sh
 mkdir -p target/checks
 gcc -O2 -std=c11 -Wall -Wextra -pthread -D_POSIX_C_SOURCE=200809L \
-    -o target/checks/every_root checks/every_root.c target/staticlib/libkalman_c.a
+    -o target/checks/every_root checks/every_root.c target/lib/libyurgamysh.a
 exec target/checks/every_root "$@"

@@ -36,9 +36,12 @@ draw() {
     { sub(/#.*/, "") }
     /:/ { n = $0; sub(/:.*/, "", n); d = $0; sub(/^[^:]*:/, "", d); deps[n] = d; names[++count] = n }
     END {
-        for (k = 1; k <= count; k++) if (floor_of(names[k]) > top) top = level[names[k]]
+        for (k = 1; k <= count; k++) {
+            if (floor_of(names[k]) > top) top = level[names[k]]
+            if (length(names[k]) > wide) wide = length(names[k])
+        }
         for (f = top; f >= 0; f--) {
-            for (k = 1; k <= count; k++) if (level[names[k]] == f) printf "    %d  %-13s on %s\n", f, names[k], rests(names[k])
+            for (k = 1; k <= count; k++) if (level[names[k]] == f) printf "    %2d  %-" wide "s on %s\n", f, names[k], rests(names[k])
         }
     }' "$root/crates.txt"
 }

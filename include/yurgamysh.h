@@ -11,12 +11,20 @@
    - a buffer that the call writes (its pointer is not const) shares no memory with another of the
      same call; buffers that are only read may share;
    - `value` of yurgamysh_get points to one float, always;
-   - the processor rounds to nearest and keeps subnormals, as it does when a program starts. (A program
-     that gcc links with -ffast-math starts with subnormals turned off, and gets other bits.)
+   - the processor rounds to nearest and keeps subnormals, as it does when a program starts. Sums,
+     products and quotients are its own instructions and follow its mode, so whoever set another one
+     (MXCSR on x86-64, FPCR on Arm) puts it back before a call. Else other bits come; and with
+     subnormals flushed to zero a subnormal pivot is refused that would have been taken. (A program
+     that gcc links with -ffast-math starts with them flushed.)
 
    What the caller need not care about: any sizes, any lengths, any rows and columns, and any floats,
    infinities and NaN among them. Such a call answers or refuses. No call allocates, fails to return,
    or keeps a pointer; two threads may call at the same time, each with its own written buffers.
+
+   Stack that a call takes, its parameters included, as measured on x86-64: a prediction about 1.4 kB
+   and a correction 1.9 kB at n = m = 1, 1.5 kB and 2.0 kB at n = m = 16. Half of it or more is room
+   for one matrix, at every size. A call of the one-state record takes 0.1 kB. On Arm each of these is
+   the same within 0.1 kB.
 
    The answer is one number: 0 where the call did its work, else 100 times the refusal's number plus
    what it carries. yurgamysh_answer_of and yurgamysh_carried_by take it apart.
@@ -160,7 +168,7 @@ size_t yurgamysh_one_state_correct(float *record, size_t record_len, float z);
 /* The lower Cholesky factor of the symmetric n by n matrix t, in t; the strict upper triangle ends
    as +0. Only the upper triangle and the diagonal are read. Refusal YURGAMYSH_PIVOT at i leaves the
    columns before i of the lower triangle done, (i, i) as the refused pivot times the reciprocal of
-   the root before it (+0 for i = 0), and every other cell as lent. Size 0: n. Buffer 0: t. */
+   the root before it (times +0 where i is 0), and every other cell as lent. Size 0: n. Buffer 0: t. */
 size_t yurgamysh_cholesky_decompose_lower(size_t n, float *t, size_t t_len);
 
 /* The inverse of L*L^T from its lower factor L; the strict upper triangle of l is not read.

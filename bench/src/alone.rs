@@ -215,9 +215,9 @@ pub fn refused(plan: Plan) -> Result<[Times; 2], String> {
     Ok([predict, correct])
 }
 
-/// Bytes of stack that a prediction, a correction and a decomposition at 16 take.
-pub fn stacks() -> [usize; 3] {
-    let from = model::<16, 16, 256, 256, 256>();
+/// Bytes of stack that a prediction, a correction and a decomposition take, of N states and N readings.
+pub fn stacks<const N: usize, const NN: usize>() -> [usize; 3] {
+    let from = model::<N, N, NN, NN, NN>();
     let mut ours = ours::Filter::new(&from);
     let mut t = from.p;
     [
@@ -228,7 +228,7 @@ pub fn stacks() -> [usize; 3] {
             black_box(black_box(&mut ours).correct());
         }),
         stack::taken(&mut || {
-            black_box(ours::decompose(16, black_box(&mut t)));
+            black_box(ours::decompose(N, black_box(&mut t)));
         }),
     ]
 }

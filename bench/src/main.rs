@@ -41,7 +41,7 @@ fn measure(plan: timing::Plan) -> Result<Vec<report::Figure>, String> {
     Ok(figures)
 }
 
-/// Measures and prints; whether every bar holds.
+/// Measures and prints; whether every bar of bench/README.md is met.
 fn run(data: Option<&str>) -> Result<bool, String> {
     let plan = timing::Plan {
         repetitions: 31,
@@ -55,8 +55,14 @@ fn run(data: Option<&str>) -> Result<bool, String> {
         "a call that is refused for its last buffer: predict {:.1} ns, correct {:.1} ns",
         predict.median, correct.median
     );
-    let [predict, correct, decompose] = alone::stacks();
-    println!("stack at 16: predict {predict} bytes, correct {correct}, decomposition {decompose}");
+    let stacks = [
+        (1, alone::stacks::<1, 1>()),
+        (4, alone::stacks::<4, 16>()),
+        (16, alone::stacks::<16, 256>()),
+    ];
+    for (size, [predict, correct, decompose]) in stacks {
+        println!("stack at {size}: predict {predict} bytes, correct {correct}, decomposition {decompose}");
+    }
     if let Some(file) = data {
         std::fs::write(file, report::lines(&figures)).map_err(|e| format!("{file}: {e}"))?;
     }
@@ -66,14 +72,18 @@ fn run(data: Option<&str>) -> Result<bool, String> {
 fn main() {
     let words: Vec<String> = std::env::args().skip(1).collect();
     let words: Vec<&str> = words.iter().map(String::as_str).collect();
-    let result = match words[..] {
+    let (bars, words) = match words[..] {
+        ["--bars", ref rest @ ..] => (true, rest),
+        ref all => (false, all),
+    };
+    let result = match *words {
         [] => run(None),
         ["--data", file] => run(Some(file)),
-        _ => Err("use: bench [--data FILE]".into()),
+        _ => Err("use: bench [--bars] [--data FILE]".into()),
     };
     match result {
-        Ok(true) => {}
-        Ok(false) => std::process::exit(1),
+        Ok(met) if met || !bars => {}
+        Ok(_) => std::process::exit(1),
         Err(why) => {
             eprintln!("bench: {why}");
             std::process::exit(2);

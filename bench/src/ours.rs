@@ -1,4 +1,4 @@
-//! What `libkalman_c.a` exports, and a filter of known size over it.
+//! What the archive exports, and a filter of known size over it.
 
 use crate::model::Model;
 

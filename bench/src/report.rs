@@ -1,4 +1,4 @@
-//! The figures, the table, and the bars.
+//! The figures, the table, and the bars that bench/README.md lists.
 
 use crate::timing::Times;
 
@@ -113,19 +113,19 @@ fn mean(ratios: impl Iterator<Item = f64>) -> f64 {
     (sum / count as f64).exp()
 }
 
-/// Prints the geometric mean and the bars; whether all hold.
+/// Prints the geometric mean and the bars; whether all are met.
 pub fn bars(figures: &[Figure]) -> bool {
     let counted = || figures.iter().filter(|f| f.counts());
     let over_arrays = mean(counted().map(Figure::ratio));
     let over_slices = mean(counted().filter_map(|f| Some(f.slices?.by_first)));
     println!("geometric mean over predict, correct and chain: {over_arrays:.2} against arrays, {over_slices:.2} against slices");
     let mut all = true;
-    let mut bar = |name: &str, value: f64, holds: bool| {
+    let mut bar = |name: &str, value: f64, met: bool| {
         println!(
-            "{} {name}: {value:.2}",
-            if holds { "holds " } else { "FAILS " }
+            "bar, {}: {name}: {value:.2}",
+            if met { "met" } else { "not met" }
         );
-        all &= holds;
+        all &= met;
     };
     bar(
         "geometric mean at least 1.2",

@@ -263,14 +263,63 @@ impl<const N: usize, const M: usize> Observation<N, M> {
         &mut self.z
     }
 
-    /// The innovation of the last correction, y.
+    /// The innovation of the last correction, y = z − H·x, as the `fix` of [`Filter::correct_with`] left
+    /// it: of a refused one too. Before the first it is 0.
     pub fn innovation_vector(&self) -> &[f32; M] {
         &self.y
     }
 
-    /// The gain of the last correction that was done, K.
+    /// The gain of the last correction that was accepted, K. A refused one leaves it as it was; before
+    /// the first it is 0.
     pub fn kalman_gain(&self) -> &[[f32; M]; N] {
         &self.k
+    }
+
+    /// The lower factor L of the spread of the innovation: S = L·Lᵀ, and not S itself. S is H·P·Hᵀ + R
+    /// with the P from before the correction.
+    ///
+    /// - After an accepted correction it is L, with +0 above the diagonal.
+    /// - After one that was refused with `Pivot(i)` it is no factor: from the diagonal down, the columns
+    ///   before i are those of L; (i, i) is the refused pivot times the reciprocal of the root before it
+    ///   (times +0 where i is 0); every other cell is that of S.
+    /// - Before the first correction it is 0.
+    ///
+    /// With y it tells how far off a reading is: yᵀ·S⁻¹·y is the square of the length of v in L·v = y.
+    ///
+    /// ```
+    /// use yurgamysh::{Filter, Observation, Refusal};
+    ///
+    /// fn distance_squared<const N: usize, const M: usize>(seen: &Observation<N, M>) -> f32 {
+    ///     let (l, y) = (seen.innovation_covariance_factor(), seen.innovation_vector());
+    ///     let mut v = [0.0; M];
+    ///     for i in 0..M {
+    ///         let known: f32 = (0..i).map(|j| l[i][j] * v[j]).sum();
+    ///         v[i] = (y[i] - known) / l[i][i];
+    ///     }
+    ///     v.iter().map(|v| v * v).sum()
+    /// }
+    ///
+    /// fn main() -> Result<(), Refusal> {
+    ///     let mut filter = Filter::<1>::new().with_state_vector([1.0]).with_estimate_covariance([[3.0]]);
+    ///     let mut tension = Observation::<1, 1>::new()
+    ///         .with_observation_matrix([[1.0]])
+    ///         .with_measurement_noise_covariance([[1.0]])
+    ///         .with_measurement_vector([21.0]);
+    ///
+    ///     // A reading ten spreads away: the filter goes back to what it was.
+    ///     let before = filter.clone();
+    ///     filter.correct(&mut tension)?;
+    ///     assert_eq!(tension.innovation_covariance_factor(), &[[2.0]]);
+    ///     assert_eq!(distance_squared(&tension), 100.0);
+    ///     if distance_squared(&tension) > 9.0 {
+    ///         filter = before;
+    ///     }
+    ///     assert_eq!(filter.state_vector(), &[1.0]);
+    ///     Ok(())
+    /// }
+    /// ```
+    pub fn innovation_covariance_factor(&self) -> &[[f32; M]; M] {
+        &self.s
     }
 }
 

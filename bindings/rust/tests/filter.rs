@@ -80,6 +80,7 @@ fn a_correction() {
     .unwrap();
     assert_eq!((f.state_vector(), f.estimate_covariance()), (&x, &p));
     assert_eq!((o.innovation_vector(), o.kalman_gain()), (&y, &k));
+    assert_eq!(o.innovation_covariance_factor().as_flattened(), &s);
     assert_eq!(y, [3.0, -7.75, 8.5]);
     // The readings pull the estimate: x is none of what it was, and P is smaller.
     assert!(x[0] != 3.0 && x[1] != 2.0 && p[0][0] < 2.0 && p[1][1] < 3.0);
@@ -98,6 +99,61 @@ fn a_refused_correction_leaves_x_and_p() {
     *o.measurement_noise_covariance_mut() = *observation().measurement_noise_covariance();
     assert_eq!(f.correct(&mut o), Ok(()));
     assert_ne!(bits(&f), before);
+}
+
+/// y, K and the factor of S as whoever rejects far readings finds them: before any correction, after one
+/// that was accepted and after one that was refused.
+#[test]
+fn what_a_correction_leaves_in_the_observation() {
+    let (mut f, mut o) = (filter(), observation());
+    assert_eq!(o.innovation_vector(), &[0.0; 3]);
+    assert_eq!(o.kalman_gain(), &[[0.0; 3]; 2]);
+    assert_eq!(o.innovation_covariance_factor(), &[[0.0; 3]; 3]);
+
+    // H·P·Hᵀ + R, which has no rounding here.
+    let mut s = [[7.75, 6.125, 1.5], [6.125, 18.125, -1.75], [1.5, -1.75, 10.5]];
+    f.correct(&mut o).unwrap();
+    let l = *o.innovation_covariance_factor();
+    for i in 0..3 {
+        for j in 0..3 {
+            let entry: f32 = (0..3).map(|k| l[i][k] * l[j][k]).sum();
+            assert!((entry - s[i][j]).abs() < 1e-5, "S({i}, {j}) is {entry}");
+            assert!(j <= i || l[i][j].to_bits() == 0, "+0 above the diagonal");
+        }
+    }
+    let gain = *o.kalman_gain();
+    assert_ne!(gain, [[0.0; 3]; 2]);
+
+    // Refused at pivot 1: y is this correction's, K the last one's, and S is done up to there.
+    let mut f = filter();
+    o.measurement_noise_covariance_mut()[1][1] = -1e6;
+    s[1][1] += -1e6 - 5.0;
+    *o.measurement_vector_mut() = [8.0, -3.0, 11.0];
+    assert_eq!(f.correct(&mut o), Err(Refusal::Pivot(1)));
+    assert_eq!(o.innovation_vector(), &[4.0, -7.75, 8.5]);
+    assert_eq!(o.kalman_gain(), &gain);
+    let left = *o.innovation_covariance_factor();
+    for (i, row) in left.iter().enumerate() {
+        assert_eq!(row[0].to_bits(), l[i][0].to_bits(), "column 0 is the factor's");
+        assert_eq!(row[2], s[i][2], "column 2 is that of S");
+    }
+    assert_eq!(left[0][1], s[0][1]);
+    let root = yurgamysh::square_root(7.75);
+    let pivot = s[1][1] - l[1][0] * l[1][0];
+    assert_eq!(left[1][1], pivot * yurgamysh::recip(root));
+
+    // Refused at pivot 0: the pivot times +0 in the corner, and all else of S; y as it was put right.
+    o.measurement_noise_covariance_mut()[0][0] = f32::NAN;
+    assert_eq!(f.correct(&mut o), Err(Refusal::Pivot(0)));
+    assert!(o.innovation_covariance_factor()[0][0].is_nan());
+    o.measurement_noise_covariance_mut()[0][0] = -1e6;
+    assert_eq!(f.correct_with(&mut o, |y| y[0] = 1.5), Err(Refusal::Pivot(0)));
+    assert_eq!(o.innovation_vector(), &[1.5, -7.75, 8.5]);
+    assert_eq!(o.kalman_gain(), &gain);
+    let left = o.innovation_covariance_factor();
+    assert_eq!(left[0][0].to_bits(), (-0.0f32).to_bits());
+    assert_eq!((left[0][1], left[0][2], left[1]), (s[0][1], s[0][2], s[1]));
+    assert_eq!(left[2], s[2]);
 }
 
 #[test]
