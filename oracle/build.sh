@@ -65,7 +65,7 @@ build "$out/libpairs.rlib" "$out/libminikalman.rlib $here/sizes/pairs.rs $here/s
 build "$out/oracle" "$out/libtriples.rlib $out/libpairs.rlib $(echo "$here"/src/*.rs)" \
   -O --crate-type bin --crate-name oracle $with_sizes "$here/src/main.rs"
 
-# What the original does where document 01 asks for something else, without and with debug assertions.
+# What the original does where the rules ask for something else, without and with debug assertions.
 build "$out/findings" "$out/libminikalman.rlib $here/src/findings.rs" \
   -C opt-level=0 --crate-type bin --crate-name findings $with_minikalman "$here/src/findings.rs"
 mkdir -p "$out/debug"

@@ -23,7 +23,7 @@ while [ $# -gt 0 ]; do
     *) die "'$1' is no option; the place of the original's files goes into MINIKALMAN_SRC" ;;
   esac
 done
-command -v rt >/dev/null || die "the command 'rt' of the Rattle kit is not on the PATH."
+sh "$root/checks/kit.sh" || exit 2
 
 bash "$here/build.sh"
 "$root/target/oracle/oracle" --self-test | tail -n 1 | sed 's/^/self test of the oracle: /'

@@ -169,7 +169,7 @@ fn filter<const N: usize, const M: usize>(op: Filter, lent: Buffers) {
 
 static FILTER: [[fn(Filter, Buffers); 16]; 16] = plane!(filter);
 
-/// Buffers: the correction's twelve, in document 01's order.
+/// Buffers: the correction's twelve, in the order of R5.
 pub fn run_filter(op: Filter, n: usize, m: usize, lent: Buffers) {
     FILTER[n - 1][m - 1](op, lent)
 }

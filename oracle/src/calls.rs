@@ -124,7 +124,7 @@ impl Function {
         matches!(self, Get | Recip | SquareRoot)
     }
 
-    /// How many numbers each lent buffer has to hold, in document 01's order.
+    /// How many numbers each lent buffer has to hold, in the order of R5.
     /// Sizes are 1 to 16 here.
     pub fn needs(self, s: &[usize]) -> Vec<usize> {
         use Function::*;

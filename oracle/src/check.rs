@@ -16,7 +16,7 @@ struct Counts {
     longest: usize,
 }
 
-/// Whether every line is as the original and document 01 give it.
+/// Whether every line is as the original and the rules give it.
 pub fn run(input: impl BufRead) -> bool {
     let mut all: BTreeMap<Function, Counts> = BTreeMap::new();
     let mut differ = 0u64;

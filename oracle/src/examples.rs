@@ -1,5 +1,5 @@
-//! The ● examples of document 01 and the inputs that tell how the toolchain starts a sum of floats,
-//! each with the answer that document 01 states.
+//! The checked examples of docs/RULES.md and the inputs that tell how the toolchain starts a sum of floats,
+//! each with the answer that the rules state.
 
 use crate::calls::{Answer, Call, Function};
 
@@ -7,7 +7,7 @@ pub struct Example {
     pub what: &'static str,
     pub call: Call,
     pub answer: Answer,
-    /// The original gives something else, and document 01 says so.
+    /// The original gives something else, and the rules say so.
     pub differs: bool,
 }
 

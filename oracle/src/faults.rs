@@ -1,4 +1,4 @@
-//! Wrong readings of document 01, planted on purpose: with one of them the steps of `model` give the
+//! Wrong readings of the rules, planted on purpose: with one of them the steps of `model` give the
 //! answers of a program that made this mistake, and a comparison must find them.
 
 use std::cell::Cell;

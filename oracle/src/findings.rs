@@ -1,5 +1,5 @@
-//! Runs the original where document 01 asks for something else, and prints a table: the smallest input,
-//! what the original gave in this run, what document 01 asks for. A program of its own, built twice:
+//! Runs the original where the rules ask for something else, and prints a table: the smallest input,
+//! what the original gave in this run, what the rules ask for. A program of its own, built twice:
 //! without debug assertions and overflow checks, and with them.
 
 use minikalman::kalman::regular::RegularKalmanBuilder;
@@ -111,7 +111,7 @@ fn predict<const N: usize>(b: &mut [Vec<f32>]) {
 
 fn head(title: &str) {
     println!("\n### {title}\n");
-    println!("| where | smallest input | the original, as run | document 01 |");
+    println!("| where | smallest input | the original, as run | the rules |");
     println!("|---|---|---|---|");
 }
 

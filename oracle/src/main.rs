@@ -18,13 +18,13 @@ use std::process::ExitCode;
 
 const USAGE: &str = "usage:
   oracle [--seed N] [--lines N] [--functions a,b,c]   a list, on standard output
-  oracle --small [--seed N]                           the fixed list of document 01's examples and some
+  oracle --small [--seed N]                           the fixed list of checked examples and some
                                                       3,000 lines, mostly of small sizes
   oracle .. --fault NAME                              the same list with the answers of a program that makes
                                                       this mistake; --faults lists them
   oracle --check [FILE]                               reads a list (standard input if no file), runs the
                                                       original again, reports differences and counts
-  oracle --self-test                                  the toolchain, document 01's examples, agreement
+  oracle --self-test                                  the toolchain, the checked examples, agreement
   oracle --names                                      the functions, one a line
 N is decimal; without --seed it is 1, without --lines 20000.";
 
@@ -126,7 +126,7 @@ fn list(
 ) -> Result<(), String> {
     let mut out = BufWriter::with_capacity(1 << 16, std::io::stdout().lock());
     let mut put = |line: &str| writeln!(out, "{line}").map_err(|e| e.to_string());
-    put("# Calls and answers of minikalman 0.8.1 (f32, feature std) under document 01's rules; see oracle/FORMAT.md.")?;
+    put("# Calls and answers of minikalman 0.8.1 (f32, feature std) under the rules of docs/RULES.md; see oracle/FORMAT.md.")?;
     let names: Vec<_> = functions.iter().map(|f| f.name()).collect();
     let names = if functions.len() == ALL.len() {
         "all".into()

@@ -1,12 +1,12 @@
-//! Document 01 in plain f32 loops at run-time sizes: the refusals, and every function step by step.
-//! It gives the answers where document 01 differs from the original on purpose, and everywhere else
+//! docs/RULES.md in plain f32 loops at run-time sizes: the refusals, and every function step by step.
+//! It gives the answers where the rules differ from the original on purpose, and everywhere else
 //! it is held against the original, bit for bit.
 
 use crate::calls::{Answer, Call, Function, Places};
 use crate::faults::{planted, Fault};
 
 /// Refusals 1 to 3: number and what it carries. Which size, which buffer, and row (0) before column (1)
-/// are counted from 0 in document 01's order.
+/// are counted from 0 in the order of R5.
 pub fn gate(call: &Call) -> Option<(u32, u32)> {
     let f = call.function;
     for (at, size) in call.sizes.iter().enumerate() {
@@ -280,7 +280,7 @@ fn update(n: usize, m: usize, lent: &mut [Vec<f32>]) -> Result<(), (usize, f32)>
     Ok(())
 }
 
-/// The answer of document 01, and the refused pivot if there is one.
+/// The answer of the rules, and the refused pivot if there is one.
 pub fn answer(call: &Call) -> (Answer, Option<f32>) {
     use Function::*;
     let mut lent = call.lent.clone();

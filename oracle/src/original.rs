@@ -1,5 +1,5 @@
-//! A call made to the original's code, and the answer of a line: the original's wherever document 01
-//! asks for what the original gives, else document 01's, with the tag that says so.
+//! A call made to the original's code, and the answer of a line: the original's wherever the rules
+//! ask for what the original gives, else the rules', with the tag that says so.
 
 use crate::calls::{same, same_answer, same_buffers, Answer, Call, Function, Tag};
 use crate::model;
@@ -117,7 +117,7 @@ fn s_before(n: usize, m: usize, h: &[f32], p: &[f32], r: &[f32], s: &[f32]) -> V
     s
 }
 
-/// The answer to a call and where it comes from; an error if the original and document 01's steps
+/// The answer to a call and where it comes from; an error if the original and the rules' steps
 /// differ where they should agree.
 pub fn answer(call: &Call) -> Result<(Tag, Answer), String> {
     use Function::*;
@@ -181,7 +181,7 @@ pub fn answer(call: &Call) -> Result<(Tag, Answer), String> {
                 !done
             };
             if !refused {
-                return Err("S is refused by document 01's steps alone".into());
+                return Err("S is refused by the rules' steps alone".into());
             }
             lent[s] = left;
             Answer {
@@ -192,7 +192,7 @@ pub fn answer(call: &Call) -> Result<(Tag, Answer), String> {
         }
         _ => {
             let number = if found.verdict { 0 } else { 4 };
-            // The verdict is a bool: the pivot's index is that of document 01's steps.
+            // The verdict is a bool: the pivot's index is that of the rules' steps.
             let carried = if found.verdict { 0 } else { expected.carried };
             Answer {
                 number,
@@ -204,7 +204,7 @@ pub fn answer(call: &Call) -> Result<(Tag, Answer), String> {
     };
     if !same_answer(&answer, &expected) {
         return Err(format!(
-            "the original and document 01's steps differ: {}",
+            "the original and the rules' steps differ: {}",
             difference(&answer, &expected)
         ));
     }

@@ -1,5 +1,5 @@
-//! What the list rests on: the toolchain's empty sum, the ● examples of document 01, and that
-//! document 01's steps and the original agree on lines of every function.
+//! What the list rests on: the toolchain's empty sum, the checked examples of docs/RULES.md, and that
+//! the rules' steps and the original agree on lines of every function.
 
 use crate::calls::{same, same_answer, ALL};
 use crate::examples;
@@ -38,11 +38,11 @@ pub fn run() -> bool {
     );
 
     for e in examples::all() {
-        // document 01's steps
+        // the rules' steps
         let (by_steps, _) = model::answer(&e.call);
         say(
             same_answer(&by_steps, &e.answer),
-            &format!("{}: document 01's steps", e.what),
+            &format!("{}: the rules' steps", e.what),
         );
         // the original, for a call that it can be given
         if model::gate(&e.call).is_some() {
@@ -104,7 +104,7 @@ pub fn run() -> bool {
     }
     say(
         differ == 0,
-        "327680 roots: document 01's steps and the original agree",
+        "327680 roots: the rules' steps and the original agree",
     );
 
     for f in ALL {
@@ -117,7 +117,7 @@ pub fn run() -> bool {
             }
         }
         let what = format!(
-            "{lines} lines of {}: document 01's steps and the original agree",
+            "{lines} lines of {}: the rules' steps and the original agree",
             f.name()
         );
         match wrong {
