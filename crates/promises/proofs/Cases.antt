@@ -1,0 +1,42 @@
+-- What the enums that answer say, by their cases (R3): the pivot step and the record's correction say 4 exactly where the pivot is not taken, and what they carry. By the one test behind both.
+-- Assumes nothing.
+use mathlib.Core.Path.{_≡_, refl}
+use mathlib.Core.Bool.{Bool, true, false, cond}
+use mathlib.Core.List.{List, [], _∷_}
+use Prim.Native.Nat.{ℕ}
+use lib.Ieee.{Float, Format, binary32}
+use Rattle.answers.specs.Answers.{numberOf, carriedBy}
+use Rattle.numbers.specs.Reciprocal.{recipOf}
+use Rattle.numbers.specs.Root.{sqrtOf}
+use Rattle.factors.specs.Pivots.{pivotTaken}
+use Rattle.pivots.specs.declared.Pivot.the-variants.{Accepted, Refused}
+use Rattle.pivots.specs.Pivots as pivots
+use Rattle.one_state.specs.declared.OneState.{OneState}
+use Rattle.one_state.specs.declared.Corrected.the-variants as one
+use Rattle.one_state.specs.OneState.{spread, renewed, corrected, answerOf, handedBack}
+
+-- ---- the pivot step on s
+pivot-by : (b : Bool) (r q s : Float) → (pivots.numberOf (cond b (Accepted r q) (Refused s)) ≡ cond b 0 4) × (pivots.carriedBy (cond b (Accepted r q) (Refused s)) ≡ cond b (r ∷ q ∷ []) (s ∷ []))
+pivot-by true r q s = (refl, refl)
+pivot-by false r q s = (refl, refl)
+
+pub pivot-says : (f : Format) (s : Float)
+    → (pivots.numberOf (pivots.pivotOf f s) ≡ cond (pivotTaken s) 0 4)
+    × (pivots.carriedBy (pivots.pivotOf f s) ≡ cond (pivotTaken s) (sqrtOf f s ∷ recipOf f (sqrtOf f s) ∷ []) (s ∷ []))
+pivot-says f s = pivot-by (pivotTaken s) (sqrtOf f s) (recipOf f (sqrtOf f s)) s
+
+-- ---- the record s by the reading z
+record-by : (b : Bool) (next s : OneState)
+    → (numberOf (answerOf (cond b (one.Accepted next) (one.Refused s 0))) ≡ cond b 0 4)
+    × (carriedBy (answerOf (cond b (one.Accepted next) (one.Refused s 0))) ≡ cond b [] (0 ∷ []))
+    × (handedBack (cond b (one.Accepted next) (one.Refused s 0)) ≡ cond b next s)
+record-by true next s = (refl, refl, refl)
+record-by false next s = (refl, refl, refl)
+
+pub record-says : (s : OneState) (z : Float)
+    → let taken = pivotTaken (spread binary32 (s .h) (s .p) (s .r)) in
+    (numberOf (answerOf (corrected s z)) ≡ cond taken 0 4)
+    × (carriedBy (answerOf (corrected s z)) ≡ cond taken [] (0 ∷ []))
+    × (handedBack (corrected s z) ≡ cond taken (renewed s z) s)
+unfolding corrected
+record-says s z = record-by (pivotTaken (spread binary32 (s .h) (s .p) (s .r))) (renewed s z) s
