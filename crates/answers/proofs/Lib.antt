@@ -3,3 +3,4 @@ pub mod Kept
 pub mod Shorter
 pub mod Table
 pub mod Fit
+pub mod Asked

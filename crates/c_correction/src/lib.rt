@@ -20,7 +20,7 @@ pub extern "C" fn yurgamysh_innovation(
 ) -> usize
     ensures { λ code. ⌜ Told (λ v. Innovated binary32 n m (now (x .entry)) (now (h .entry)) (now (z .entry)) (now (y .entry)) v (now (y .exit))) code ⌝ }
 {
-    c_codes::code_of(observations::innovation(n, m, x, h, z, y))
+    c_codes::code_of(innovations::innovation(n, m, x, h, z, y))
 }
 
 // x and P after an observation whose innovation is y; or the first pivot that is not above zero is
@@ -46,7 +46,7 @@ pub extern "C" fn yurgamysh_update(
         v
         (buffers (now (x .exit)) (now (p .exit)) (now (h .entry)) [] (now (r .entry)) (now (y .entry)) (now (s .exit)) (now (k .exit)) (now («temp_s_inv» .exit)) (now («temp_hp» .exit)) (now («temp_pht» .exit)) (now («temp_khp» .exit)))) code ⌝ }
 {
-    c_codes::code_of(observations::update_with_innovation(
+    c_codes::code_of(innovations::update_with_innovation(
         n,
         m,
         x,
@@ -86,7 +86,7 @@ pub extern "C" fn yurgamysh_correct(
         v
         (buffers (now (x .exit)) (now (p .exit)) (now (h .entry)) (now (z .entry)) (now (r .entry)) (now (y .exit)) (now (s .exit)) (now (k .exit)) (now («temp_s_inv» .exit)) (now («temp_hp» .exit)) (now («temp_pht» .exit)) (now («temp_khp» .exit)))) code ⌝ }
 {
-    c_codes::code_of(observations::correct(
+    c_codes::code_of(readings::correct(
         n,
         m,
         x,

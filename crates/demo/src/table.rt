@@ -2,69 +2,16 @@
 ghost use mathlib.Core.Path.{_≡_};
 use answers::Answer;
 use feeder::Feeder;
-use hundredths::Hundredths;
-use hundredths::in_hundredths;
-use libc::STDOUT_FILENO;
+use figures::gap;
+use figures::number;
+use figures::plain;
+use figures::right;
+use figures::text;
+use figures::whole;
 use shift::Outcome;
 use shift::Reading;
 use shift::Step;
 use shift::Tally;
-
-// Words.
-fn text(words: &[u8]) {
-    io::write_all(STDOUT_FILENO, words);
-}
-
-// The number n.
-fn whole(n: u64) {
-    io::print_decimal(STDOUT_FILENO, n);
-}
-
-// n at the right of five places.
-fn right(n: u64) {
-    if n < 10 {
-        text(b"    ");
-    } else if n < 100 {
-        text(b"   ");
-    } else if n < 1000 {
-        text(b"  ");
-    } else if n < 10000 {
-        text(b" ");
-    }
-    whole(n);
-}
-
-// The two decimals of h hundredths.
-fn decimals(h: u64) {
-    if h % 100 < 10 {
-        text(b".0");
-    } else {
-        text(b".");
-    }
-    whole(h % 100);
-}
-
-// v with two decimals.
-fn plain(v: f32) {
-    match in_hundredths(v) {
-        Hundredths::Of(h) => {
-            whole(h / 100);
-            decimals(h);
-        }
-        Hundredths::Beyond => text(b"?"),
-    }
-}
-
-// The same at the right of eight places.
-fn number(v: f32) {
-    match in_hundredths(v) {
-        Hundredths::Of(h) => {
-            right(h / 100);
-            decimals(h);
-        }
-        Hundredths::Beyond => text(b"       ?"),
-    }
-}
 
 // The standard deviation of the tension, the root of P(0, 0).
 fn spread(f: Feeder) {
@@ -121,13 +68,13 @@ pub fn line(n: u64, g: Reading, s: Step) {
     let after = s.after;
     let o = s.outcome;
     right(n);
-    text(b"  ");
+    gap();
     reading(g);
-    text(b"  ");
+    gap();
     number(feeder::tension(after));
-    text(b"  ");
+    gap();
     spread(after);
-    text(b"  ");
+    gap();
     outcome(o);
     remark(g);
     text(b"\n");

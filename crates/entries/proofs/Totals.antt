@@ -1,7 +1,7 @@
 -- A loop that adds up n terms in their order, from a given start, for four totals side by side, or from the first term: what holds before each turn, that a turn keeps it, and what it leaves. Assumes nothing.
 use mathlib.Core.Path.{_≡_, refl, sym, ap, ap₂, _∙_}
 use mathlib.Core.List.{List}
-use Prim.Native.Nat.{ℕ, _+_, _<_, _≤_}
+use Prim.Native.Nat.{ℕ, _+_, _*_, _<_, _≤_}
 use native.Mathlib.Omega.{arith}
 use lib.ListN.{getD}
 use lib.Ieee.{Float, Format, nan, binary32, ofBits, add, mul}
@@ -94,6 +94,15 @@ module _ {f : Format} {y : ℕ → Float} {l : List Float} {place : ℕ → ℕ 
       → (t0 ≡ sumFrom f plus0 (λ i. mul f (y i) (getD l (place j i) nan)) n) × (t1 ≡ sumFrom f plus0 (λ i. mul f (y i) (getD l (place (j + 1) i) nan)) n)
       × (t2 ≡ sumFrom f plus0 (λ i. mul f (y i) (getD l (place (j + 2) i) nan)) n) × (t3 ≡ sumFrom f plus0 (λ i. mul f (y i) (getD l (place (j + 3) i) nan)) n)
   all-four {k = k} h le = (all-added (h .first) le, all-added (h .second) le, all-added (h .third) le, all-added (h .fourth) le)
+
+module _ {f : Format} {y : ℕ → Float} {l : List Float} {n j : ℕ} (cols : ℕ) where
+  -- the four places in row k of a matrix of so many columns, where they begin at p
+  pub four-in-row :
+      {t0 t1 t2 t3 v0 v1 v2 v3 : Float} {k p : ℕ} → AddingFour f y l (λ i k. k * cols + i) n j t0 t1 t2 t3 k → k < n
+      → (v0 ≡ add f t0 (mul f (y k) (getD l p nan))) × (v1 ≡ add f t1 (mul f (y k) (getD l (p + 1) nan)))
+      × (v2 ≡ add f t2 (mul f (y k) (getD l (p + 2) nan))) × (v3 ≡ add f t3 (mul f (y k) (getD l (p + 3) nan)))
+      → p ≡ k * cols + j → AddingFour f y l (λ i k. k * cols + i) n j v0 v1 v2 v3 (k + 1)
+  four-in-row h lt s e = four-gained h lt s e (omega arith) (omega arith) (omega arith)
 
 -- ---- from the first term
 

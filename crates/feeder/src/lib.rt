@@ -55,7 +55,7 @@ pub fn correct(f: Feeder, z: f32, r: f32) -> Corrected
     let mut hp = [0.0; 2];
     let mut pht = [0.0; 2];
     let mut khp = [0.0; 4];
-    let answer = observations::correct(
+    let answer = readings::correct(
         2,
         1,
         &mut x,

@@ -38,7 +38,7 @@ fn valued(sizes: usize, placed: bool, floats: usize, buffers: usize) -> Shape {
     }
 }
 
-// The shape of each function.
+// The shape of each function: those that take the same stand together.
 pub fn shape_of(j: Job) -> Shape {
     match j {
         Job::Get => valued(2, true, 0, 1),
@@ -46,30 +46,19 @@ pub fn shape_of(j: Job) -> Shape {
         Job::SetSymmetric => placed(1, true, true, 1, 1),
         Job::GetRowCopy => placed(2, true, false, 0, 2),
         Job::GetColumnCopy => placed(2, false, true, 0, 2),
-        Job::CopyTo => plain(2, 0, 2),
+        Job::CopyTo | Job::SubInplaceA | Job::SubInplaceB | Job::AddInplaceA | Job::AddInplaceB =>
+            plain(2, 0, 2),
         Job::SetAll => plain(2, 1, 1),
-        Job::Clear => plain(2, 0, 1),
-        Job::SetZero => plain(2, 0, 1),
-        Job::SetDiagonalToScalar => plain(1, 1, 1),
-        Job::MakeScalar => plain(1, 1, 1),
-        Job::MakeIdentity => plain(1, 0, 1),
+        Job::Clear | Job::SetZero => plain(2, 0, 1),
+        Job::SetDiagonalToScalar | Job::MakeScalar => plain(1, 1, 1),
+        Job::MakeIdentity | Job::CholeskyDecomposeLower => plain(1, 0, 1),
         Job::MakeComatrix => plain(1, 2, 1),
-        Job::CholeskyDecomposeLower => plain(1, 0, 1),
         Job::InvertLCholesky => plain(1, 0, 2),
-        Job::Recip => valued(0, false, 1, 0),
-        Job::SquareRoot => valued(0, false, 1, 0),
-        Job::Mult => plain(3, 0, 3),
+        Job::Recip | Job::SquareRoot => valued(0, false, 1, 0),
+        Job::Mult | Job::MultTransb | Job::MultaddTransb => plain(3, 0, 3),
         Job::MultBuffered => plain(3, 0, 4),
-        Job::MultTransb => plain(3, 0, 3),
-        Job::MultaddTransb => plain(3, 0, 3),
         Job::MultscaleTransb => plain(3, 1, 3),
-        Job::MultRowvector => plain(2, 0, 3),
-        Job::MultaddRowvector => plain(2, 0, 3),
-        Job::Sub => plain(2, 0, 3),
-        Job::SubInplaceA => plain(2, 0, 2),
-        Job::SubInplaceB => plain(2, 0, 2),
-        Job::AddInplaceA => plain(2, 0, 2),
-        Job::AddInplaceB => plain(2, 0, 2),
+        Job::MultRowvector | Job::MultaddRowvector | Job::Sub => plain(2, 0, 3),
         Job::Innovation => plain(2, 0, 4),
         Job::PredictX => plain(1, 0, 3),
         Job::PredictP => plain(1, 0, 4),

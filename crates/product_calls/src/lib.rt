@@ -4,14 +4,7 @@ use jobs::Job;
 use lists::Head;
 
 // The call of a product. Any other job gives an answer that no call of the library has.
-pub fn product(
-    j: Job,
-    h: Head,
-    a: &mut [f32],
-    b: &mut [f32],
-    c: &mut [f32],
-    d: &mut [f32],
-) -> Answer {
+pub fn product(j: Job, h: Head, a: &[f32], b: &[f32], c: &mut [f32], d: &mut [f32]) -> Answer {
     let r = h.first;
     let k = h.second;
     let w = h.third;

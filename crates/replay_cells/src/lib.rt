@@ -8,40 +8,23 @@ use lists::head_at;
 use lists::lend;
 use lists::seen;
 
-// What a call hands back.
-struct Got {
-    v: Answer,
-    x: f32,
-}
-
-// An answer without a value.
-fn told(v: Answer) -> Got {
-    Got { v: v, x: 0.0 }
-}
-
-// A cell that was read, or the refusal.
-fn read(r: row_major::Read) -> Got {
-    match r {
-        row_major::Read::Value(x) => Got {
-            v: Answer::Done,
-            x: x,
-        },
-        row_major::Read::Refused(v) => Got { v: v, x: 0.0 },
-    }
-}
-
-// The call of a function on cells.
-fn cells(j: Job, h: Head, a: &mut [f32], b: &mut [f32]) -> Got {
+// The call of a function that writes a, or of the inverse. Any other job gives an answer that no call
+// of the library has.
+fn write(j: Job, h: Head, a: &mut [f32], b: &mut [f32]) -> Answer {
     let n = h.first;
-    let c = h.second;
     match j {
-        Job::Get => read(row_major::get(n, c, a, h.row, h.column)),
-        Job::Set => told(row_major::set(n, c, a, h.row, h.column, h.u)),
-        Job::SetSymmetric => told(row_major::set_symmetric(n, a, h.row, h.column, h.u)),
-        Job::GetRowCopy => told(row_major::get_row_copy(n, c, a, h.row, b)),
-        Job::GetColumnCopy => told(row_major::get_column_copy(n, c, a, h.column, b)),
-        Job::CopyTo => told(row_major::copy_to(n, c, a, b)),
-        _ => told(fill_calls::fill(j, h, a, b)),
+        Job::Set => row_major::set(n, h.second, a, h.row, h.column, h.u),
+        Job::SetSymmetric => row_major::set_symmetric(n, a, h.row, h.column, h.u),
+        Job::SetAll => row_major::set_all(n, h.second, a, h.u),
+        Job::Clear => row_major::clear(n, h.second, a),
+        Job::SetZero => row_major::set_zero(n, h.second, a),
+        Job::SetDiagonalToScalar => row_major::set_diagonal_to_scalar(n, a, h.u),
+        Job::MakeScalar => row_major::make_scalar(n, a, h.u),
+        Job::MakeIdentity => row_major::make_identity(n, a),
+        Job::MakeComatrix => row_major::make_comatrix(n, a, h.u, h.v),
+        Job::CholeskyDecomposeLower => cholesky::cholesky_decompose_lower(n, a),
+        Job::InvertLCholesky => inverse::invert_l_cholesky(n, a, b),
+        _ => Answer::Size(99),
     }
 }
 
@@ -54,7 +37,15 @@ pub fn compare(s: &[u8], at: usize, j: Job, h: Shape) -> Seen {
     let mut right = b.cells;
     let la = a.len;
     let lb = b.len;
-    let got = cells(j, head, &mut left[..la], &mut right[..lb]);
+    let got = match j {
+        Job::Get | Job::GetRowCopy | Job::GetColumnCopy | Job::CopyTo => read_calls::read(
+            j,
+            head,
+            &left[..la],
+            &mut right[..lb],
+        ),
+        _ => read_calls::told(write(j, head, &mut left[..la], &mut right[..lb])),
+    };
     let v = got.v;
     let answered = seen::answer_met(s, b.next, v);
     let valued = seen::value_met(s, answered, got.x, h.value);

@@ -1,4 +1,4 @@
-// A line of the correction, with its twelve buffers.
+// A line of the correction, with its twelve buffers, or of the update from a given y, which takes no z.
 ghost use Rattle.correction_buffers.specs.Buffers.{Fit};
 use correction_buffers::Buffers;
 use correction_buffers::Done;
@@ -9,8 +9,8 @@ use lists::Shape;
 use lists::head_at;
 use lists::seen;
 
-// The call of the correction.
-fn correct(n: usize, m: usize, b: Buffers) -> Done
+// The call of the correction, or of the update where z is left out.
+fn called(n: usize, m: usize, b: Buffers, with_z: bool) -> Done
     requires { ⌜ Fit b ⌝ }
 {
     let mut x = b.x.cells;
@@ -37,22 +37,40 @@ fn correct(n: usize, m: usize, b: Buffers) -> Done
     let lhp = b.hp.len;
     let lpht = b.pht.len;
     let lkhp = b.khp.len;
-    let v = observations::correct(
-        n,
-        m,
-        &mut x[..lx],
-        &mut p[..lp],
-        &h[..lh],
-        &z[..lz],
-        &r[..lr],
-        &mut y[..ly],
-        &mut s[..ls],
-        &mut k[..lk],
-        &mut inverse[..linverse],
-        &mut hp[..lhp],
-        &mut pht[..lpht],
-        &mut khp[..lkhp],
-    );
+    let v = if with_z {
+        readings::correct(
+            n,
+            m,
+            &mut x[..lx],
+            &mut p[..lp],
+            &h[..lh],
+            &z[..lz],
+            &r[..lr],
+            &mut y[..ly],
+            &mut s[..ls],
+            &mut k[..lk],
+            &mut inverse[..linverse],
+            &mut hp[..lhp],
+            &mut pht[..lpht],
+            &mut khp[..lkhp],
+        )
+    } else {
+        innovations::update_with_innovation(
+            n,
+            m,
+            &mut x[..lx],
+            &mut p[..lp],
+            &h[..lh],
+            &r[..lr],
+            &y[..ly],
+            &mut s[..ls],
+            &mut k[..lk],
+            &mut inverse[..linverse],
+            &mut hp[..lhp],
+            &mut pht[..lpht],
+            &mut khp[..lkhp],
+        )
+    };
     Done {
         v: v,
         x: x,
@@ -68,11 +86,11 @@ fn correct(n: usize, m: usize, b: Buffers) -> Done
 }
 
 // The call of a line, compared.
-pub fn compare(t: &[u8], at: usize, f: Shape) -> Seen {
+pub fn compare(t: &[u8], at: usize, f: Shape, with_z: bool) -> Seen {
     let head = head_at(t, at, f);
-    let b = read(t, head.next, true);
-    let d = correct(head.first, head.second, b);
+    let b = read(t, head.next, with_z);
+    let d = called(head.first, head.second, b, with_z);
     let v = d.v;
     let o = seen::answer_met(t, b.khp.next, v);
-    compared(t, o, b, d, true)
+    compared(t, o, b, d, with_z)
 }

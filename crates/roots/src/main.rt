@@ -7,15 +7,20 @@ mod replay;
 
 use libc::STDIN_FILENO;
 
-// An input that fills the buffer may have been cut off, so that counts as a difference.
-fn main() {
-    let mut space = [0u8; 524288];
-    let n = io::read_full(STDIN_FILENO, &mut space);
+// Counts the lines that are read into the space. An input that fills it may have been cut off, so that
+// counts as a difference.
+fn count(space: &mut [u8]) {
+    let n = io::read_full(STDIN_FILENO, space);
     let t = replay::replay(&space[..n]);
-    if n < 524288 {
+    if n < space.len() {
         print::counts(t);
     } else {
         print::too_long();
         print::counts(t.cut_off());
     }
+}
+
+fn main() {
+    let mut space = [0u8; 262144];
+    count(&mut space);
 }

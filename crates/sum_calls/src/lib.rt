@@ -13,7 +13,7 @@ pub fn sum(j: Job, h: Head, a: &mut [f32], b: &mut [f32], c: &mut [f32], d: &mut
         Job::SubInplaceB => sums::sub_inplace_b(n, m, a, b),
         Job::AddInplaceA => sums::add_inplace_a(n, m, a, b),
         Job::AddInplaceB => sums::add_inplace_b(n, m, a, b),
-        Job::Innovation => observations::innovation(n, m, a, b, c, d),
+        Job::Innovation => innovations::innovation(n, m, a, b, c, d),
         Job::PredictX => kalman::predict_x(n, a, b, c),
         Job::PredictP => kalman::predict_p(n, a, b, c, d),
         _ => product_calls::product(j, h, a, b, c, d),

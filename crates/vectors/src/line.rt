@@ -28,8 +28,8 @@ fn called(s: &[u8], at: usize, j: Job) -> Seen {
         Job::Recip => replay_numbers::recip(s, at, h),
         Job::SquareRoot => replay_numbers::square_root(s, at, h),
         Job::Predict => replay_prediction::compare(s, at, h),
-        Job::Correct => replay_correction::compare(s, at, h),
-        Job::Update => replay_update::compare(s, at, h),
+        Job::Correct => replay_correction::compare(s, at, h, true),
+        Job::Update => replay_correction::compare(s, at, h, false),
         Job::Unknown => seen::nothing(lines::LOST),
         _ => matrices(s, at, j, h),
     }

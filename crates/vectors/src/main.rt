@@ -8,7 +8,7 @@ mod tally;
 
 // 2³² fills of the buffer are more than any list has.
 fn main() {
-    let mut space = [0u8; 524288];
+    let mut space = [0u8; 131072];
     let buffer: &mut [u8] = &mut space;
     let mut t = list_tally::tally::empty();
     let mut kept: usize = 0;

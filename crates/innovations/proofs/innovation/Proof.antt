@@ -22,7 +22,7 @@ innovate-cells-requires : tie.Need-innovate-cells-requires
 innovate-cells-requires c κs = let s = shape (c .before) in (s .states, s .x-holds, s .H-holds, s .z-holds, s .y-holds)
 
 same-length : tie.Need-same-length
-same-length c = search needs
+same-length c = c .before .y .given
 
 returns : tie.Need-returns
 returns c = record {

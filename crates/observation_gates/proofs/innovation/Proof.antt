@@ -1,5 +1,6 @@
 -- `innovation` meets its contract: its six tests one after the other. Assumes nothing.
 use borrow.Author.Needs.{needs}
+use Rattle.answers.proofs.Asked.{asked}
 use Rattle.filters.specs.Lent.{innovationAnswer}
 use Rattle.observation_gates.proofs.innovation.Statement.{statement}
 use Rattle.observation_gates.proofs.innovation.Tie as tie
@@ -24,7 +25,7 @@ then-buffer-requires-3 c κs = search needs
 
 returns : tie.Need-returns
 unfolding innovationAnswer
-returns c = cc
+returns c = asked _ (asked _ (asked _ (asked _ (asked _ (c .before .before .before .before .before .then-size .ensures) (c .before .before .before .before .then-size2 .ensures)) (c .before .before .before .then-buffer .ensures)) (c .before .before .then-matrix .ensures)) (c .before .then-buffer2 .ensures)) (c .then-buffer3 .ensures)
 
 pub innovation-spec : {M : Type 1} → statement M
 innovation-spec =

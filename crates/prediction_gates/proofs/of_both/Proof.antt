@@ -1,4 +1,5 @@
 -- `of_both` meets its contract: the tests are those of the definition, in its order. Assumes nothing.
+use Rattle.answers.proofs.Asked.{asked}
 use Rattle.filters.specs.Predicted.{predictAnswer}
 use borrow.Author.Needs.{needs}
 use Rattle.prediction_gates.proofs.of_both.Statement.{statement}
@@ -27,9 +28,7 @@ then-matrix-requires-4 c κs = search needs
 
 returns : tie.Need-returns
 unfolding predictAnswer
-returns c =
-    let b = c .before .before .before in
-    simp (c .then-matrix4 .ensures, c .before .then-buffer2 .ensures, c .before .before .then-matrix3 .ensures, b .then-matrix2 .ensures, b .before .then-matrix .ensures, b .before .before .then-buffer .ensures, b .before .before .before .then-size .ensures)
+returns c = asked _ (asked _ (asked _ (asked _ (asked _ (asked _ (c .before .before .before .before .before .before .then-size .ensures) (c .before .before .before .before .before .then-buffer .ensures)) (c .before .before .before .before .then-matrix .ensures)) (c .before .before .before .then-matrix2 .ensures)) (c .before .before .then-matrix3 .ensures)) (c .before .then-buffer2 .ensures)) (c .then-matrix4 .ensures)
 
 pub of-both-spec : {M : Type 1} → statement M
 of-both-spec =

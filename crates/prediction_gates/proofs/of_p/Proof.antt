@@ -1,4 +1,5 @@
 -- `of_p` meets its contract: the tests are those of the definition, in its order. Assumes nothing.
+use Rattle.answers.proofs.Asked.{asked}
 use Rattle.filters.specs.Predicted.{predictPAnswer}
 use borrow.Author.Needs.{needs}
 use Rattle.prediction_gates.proofs.of_p.Statement.{statement}
@@ -21,7 +22,7 @@ then-matrix-requires-4 c κs = search needs
 
 returns : tie.Need-returns
 unfolding predictPAnswer
-returns c = simp (c .then-matrix4 .ensures, c .before .then-matrix3 .ensures, c .before .before .then-matrix2 .ensures, c .before .before .before .then-matrix .ensures, c .before .before .before .before .then-size .ensures)
+returns c = asked _ (asked _ (asked _ (asked _ (c .before .before .before .before .then-size .ensures) (c .before .before .before .then-matrix .ensures)) (c .before .before .then-matrix2 .ensures)) (c .before .then-matrix3 .ensures)) (c .then-matrix4 .ensures)
 
 pub of-p-spec : {M : Type 1} → statement M
 of-p-spec =

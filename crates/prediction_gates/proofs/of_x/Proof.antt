@@ -1,4 +1,5 @@
 -- `of_x` meets its contract: the tests are those of the definition, in its order. Assumes nothing.
+use Rattle.answers.proofs.Asked.{asked}
 use Rattle.filters.specs.Predicted.{predictXAnswer}
 use borrow.Author.Needs.{needs}
 use Rattle.prediction_gates.proofs.of_x.Statement.{statement}
@@ -18,7 +19,7 @@ then-buffer-requires-2 c κs = search needs
 
 returns : tie.Need-returns
 unfolding predictXAnswer
-returns c = simp (c .then-buffer2 .ensures, c .before .then-matrix .ensures, c .before .before .then-buffer .ensures, c .before .before .before .then-size .ensures)
+returns c = asked _ (asked _ (asked _ (c .before .before .before .then-size .ensures) (c .before .before .then-buffer .ensures)) (c .before .then-matrix .ensures)) (c .then-buffer2 .ensures)
 
 pub of-x-spec : {M : Type 1} → statement M
 of-x-spec =

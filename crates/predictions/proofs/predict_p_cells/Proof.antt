@@ -1,4 +1,5 @@
 -- `predict_p_cells` meets its contract: what each step leaves, by the law over the three writes. Assumes nothing.
+use mathlib.Core.Path.{_∙_}
 use Rattle.filters.proofs.Writes.{P-written}
 use borrow.Author.Needs.{needs}
 use Rattle.predictions.proofs.predict_p_cells.Statement.{statement}
@@ -17,10 +18,10 @@ add-cells-a-requires : tie.Need-add-cells-a-requires
 add-cells-a-requires c κs = search needs
 
 same-length : tie.Need-same-length
-same-length c = search needs
+same-length c = c .before .p2 .given ∙ c .before .before .before .before .before .p .given
 
 same-length-2 : tie.Need-same-length-2
-same-length-2 c = search needs
+same-length-2 c = c .before .before .before .before .before .before .before .before .before .before .temp .given
 
 returns : tie.Need-returns
 returns c =

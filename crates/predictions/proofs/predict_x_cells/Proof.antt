@@ -11,10 +11,10 @@ copy-cells-requires : tie.Need-copy-cells-requires
 copy-cells-requires c κs = search needs
 
 same-length : tie.Need-same-length
-same-length c = search needs
+same-length c = c .before .x .given
 
 same-length-2 : tie.Need-same-length-2
-same-length-2 c = search needs
+same-length-2 c = c .before .before .before .before .before .before .predicted .given
 
 returns : tie.Need-returns
 returns c =

@@ -61,31 +61,31 @@ update-cells-requires c κs =
     held-with _ _ (lent (start (gate t))) _ [] h (omega (arith, h .y-holds))
 
 same-length : tie.Need-same-length
-same-length c = omega arith
+same-length c = c .before .before .before .before .before .before .before .before .before .before .before .before .before .before .before .x .given
 
 same-length-2 : tie.Need-same-length-2
-same-length-2 c = omega arith
+same-length-2 c = c .before .before .before .before .before .before .before .before .before .before .before .before .before .p .given
 
 same-length-3 : tie.Need-same-length-3
-same-length-3 c = omega arith
+same-length-3 c = c .before .before .before .before .before .before .before .before .before .before .before .before .before .before .before .before .before .before .before .before .before .before .before .before .before .before .before .y .given
 
 same-length-4 : tie.Need-same-length-4
-same-length-4 c = omega arith
+same-length-4 c = c .before .before .before .before .before .before .before .before .before .before .before .s .given
 
 same-length-5 : tie.Need-same-length-5
-same-length-5 c = omega arith
+same-length-5 c = c .before .before .before .before .before .before .before .before .before .k .given
 
 same-length-6 : tie.Need-same-length-6
-same-length-6 c = omega arith
+same-length-6 c = c .before .before .before .before .before .before .before .temp-s-inv .given
 
 same-length-7 : tie.Need-same-length-7
-same-length-7 c = omega arith
+same-length-7 c = c .before .before .before .before .before .temp-hp .given
 
 same-length-8 : tie.Need-same-length-8
-same-length-8 c = omega arith
+same-length-8 c = c .before .before .before .temp-pht .given
 
 same-length-9 : tie.Need-same-length-9
-same-length-9 c = omega arith
+same-length-9 c = c .before .temp-khp .given
 
 returns : tie.Need-returns
 returns c =

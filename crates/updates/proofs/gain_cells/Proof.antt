@@ -16,13 +16,13 @@ mult-cells-requires : tie.Need-mult-cells-requires
 mult-cells-requires c κs = search needs
 
 same-length : tie.Need-same-length
-same-length c = search needs
+same-length c = c .before .k .given
 
 same-length-2 : tie.Need-same-length-2
-same-length-2 c = search needs
+same-length-2 c = c .before .before .before .before .before .before .before .before .before .before .before .temp-s-inv .given
 
 same-length-3 : tie.Need-same-length-3
-same-length-3 c = search needs
+same-length-3 c = c .before .before .before .before .before .before .before .temp-pht .given
 
 returns : tie.Need-returns
 returns c =

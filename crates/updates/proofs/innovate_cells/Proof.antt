@@ -1,4 +1,5 @@
 use native.Mathlib.Omega.{arith}
+use mathlib.Core.Path.{_∙_}
 use Rattle.filters.proofs.Steps.{innovated}
 use borrow.Author.Needs.{needs}
 use denote.Ref.{now}
@@ -13,7 +14,7 @@ sub-cells-b-requires : tie.Need-sub-cells-b-requires
 sub-cells-b-requires c κs = search needs
 
 same-length : tie.Need-same-length
-same-length c = search needs
+same-length c = c .before .y2 .given ∙ c .before .before .before .before .before .y .given
 
 returns : tie.Need-returns
 returns c =

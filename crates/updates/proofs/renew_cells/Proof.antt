@@ -19,13 +19,13 @@ sub-cells-a-requires : tie.Need-sub-cells-a-requires
 sub-cells-a-requires c κs = search needs
 
 same-length : tie.Need-same-length
-same-length c = search needs
+same-length c = c .before .before .before .before .before .before .before .before .before .before .x .given
 
 same-length-2 : tie.Need-same-length-2
-same-length-2 c = search needs
+same-length-2 c = c .before .p .given
 
 same-length-3 : tie.Need-same-length-3
-same-length-3 c = search needs
+same-length-3 c = c .before .before .before .before .before .before .temp-khp .given
 
 returns : tie.Need-returns
 returns c =

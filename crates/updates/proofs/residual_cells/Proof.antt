@@ -1,4 +1,5 @@
 use Rattle.filters.proofs.Steps.{residual}
+use mathlib.Core.Path.{_∙_}
 use borrow.Author.Needs.{needs}
 use denote.Ref.{now}
 use lib.Ieee.{binary32}
@@ -21,10 +22,10 @@ decompose-cells-requires : tie.Need-decompose-cells-requires
 decompose-cells-requires c κs = search needs
 
 same-length : tie.Need-same-length
-same-length c = search needs
+same-length c = c .before .s3 .given ∙ c .before .before .before .before .before .s2 .given ∙ c .before .before .before .before .before .before .before .before .before .s .given
 
 same-length-2 : tie.Need-same-length-2
-same-length-2 c = search needs
+same-length-2 c = c .before .before .before .before .before .before .before .before .before .before .before .before .before .before .temp-hp .given
 
 returns : tie.Need-returns
 returns c =

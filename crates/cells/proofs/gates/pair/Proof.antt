@@ -1,4 +1,5 @@
 -- `gates::pair` meets its contract: the tests are those of the definition, in its order. Assumes nothing.
+use Rattle.answers.proofs.Asked.{asked}
 use borrow.Author.Needs.{needs}
 use Rattle.grids.specs.Cells.{matrixAnswer, pairAnswer}
 use Rattle.cells.proofs.gates.pair.Statement.{statement}
@@ -6,7 +7,7 @@ use Rattle.cells.proofs.gates.pair.Tie as tie
 
 returns : tie.Need-returns
 unfolding matrixAnswer pairAnswer
-returns c = simp (c .then-matrix .ensures, c .before .matrix .ensures)
+returns c = asked _ (c .before .matrix .ensures) (c .then-matrix .ensures)
 
 pub pair-spec : {M : Type 1} → statement M
 pair-spec =

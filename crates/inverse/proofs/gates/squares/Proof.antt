@@ -1,4 +1,5 @@
 -- `gates::squares` meets its contract: the tests are those of the definition, in its order. Assumes nothing.
+use Rattle.answers.proofs.Asked.{asked}
 use borrow.Author.Needs.{needs}
 use Rattle.factors.specs.Inverted.{squaresAnswer}
 use Rattle.inverse.proofs.gates.squares.Statement.{statement}
@@ -15,7 +16,7 @@ then-matrix-requires-2 c κs = search needs
 
 returns : tie.Need-returns
 unfolding squaresAnswer
-returns c = simp (c .then-matrix2 .ensures, c .before .then-matrix .ensures, c .before .before .then-size .ensures)
+returns c = asked _ (asked _ (c .before .before .then-size .ensures) (c .before .then-matrix .ensures)) (c .then-matrix2 .ensures)
 
 pub squares-spec : {M : Type 1} → statement M
 squares-spec = tie.close (tie.spec then-size-requires then-matrix-requires then-matrix-requires-2 returns)

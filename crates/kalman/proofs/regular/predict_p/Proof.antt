@@ -1,8 +1,8 @@
 -- `regular::predict_p` meets its contract: the gate's answer decides, and the core leaves what the promise says. Assumes nothing.
-use mathlib.Core.Path.{sym, _∙_}
 use denote.Ref.{now}
 use lib.ListN.{length}
 use Rattle.answers.proofs.Kept.{accepted}
+use Rattle.grids.proofs.Calls.{written-by, kept-by}
 use Rattle.filters.proofs.PredictionFits.{ShapeP, p-fits}
 use borrow.Author.Needs.{needs}
 use Rattle.kalman.proofs.regular.predict_p.Statement.{statement}
@@ -22,20 +22,24 @@ predict-p-cells-requires : tie.Need-predict-p-cells-requires
 predict-p-cells-requires c κs = let s = shape (c .before .before) in (s .least, s .holds-a, s .holds-p, s .holds-q, s .holds-temp)
 
 same-length : tie.Need-same-length
-same-length c = search needs
+same-length c = c .before .before .before .p .given
 
 same-length-2 : tie.Need-same-length-2
-same-length-2 c = search needs
+same-length-2 c = c .before .temp .given
 
 returns : tie.Need-returns
 returns c =
-    let done = sym (c .before .before .before .before .before .before .before .before .is-done .ensures) ∙ c .before .before .before .before .before .before .before .if1 .taken in
-    record { answer = c .before .before .before .before .before .before .before .before .before .of-p .ensures; P-after = simp done (c .before .before .before .before .predict-p-cells .ensures .0); temp-P-after = simp done (c .before .before .before .before .predict-p-cells .ensures .1) }
+    let t = c .before .before .before .before .before .before .before in
+    let e = t .before .before .of-p .ensures in
+    let d = t .before .is-done .ensures in
+    let P = c .before .before .before .before .predict-p-cells .ensures in
+    record { answer = e; P-after = written-by _ e d (t .if1 .taken) (P .0); temp-P-after = written-by _ e d (t .if1 .taken) (P .1) }
 
 returns-2 : tie.Need-returns-2
 returns-2 c =
-    let kept = sym (c .before .is-done .ensures) ∙ c .if1 .left in
-    record { answer = c .before .before .of-p .ensures; P-after = simp kept; temp-P-after = simp kept }
+    let e = c .before .before .of-p .ensures in
+    let d = c .before .is-done .ensures in
+    record { answer = e; P-after = kept-by _ e d (c .if1 .left); temp-P-after = kept-by _ e d (c .if1 .left) }
 
 pub predict-p-spec : {M : Type 1} → statement M
 predict-p-spec =

@@ -1,4 +1,5 @@
 -- `gates::row` meets its contract: the tests are those of the definition, in its order. Assumes nothing.
+use Rattle.answers.proofs.Asked.{asked}
 use borrow.Author.Needs.{needs}
 use Rattle.entries.specs.Answers.{rowAnswer}
 use Rattle.products.proofs.gates.row.Statement.{statement}
@@ -6,7 +7,7 @@ use Rattle.products.proofs.gates.row.Tie as tie
 
 returns : tie.Need-returns
 unfolding rowAnswer
-returns c = simp (c .then-buffer2 .ensures, c .before .then-buffer .ensures, c .before .before .then-matrix .ensures, c .before .before .before .then-size2 .ensures, c .before .before .before .before .then-size .ensures)
+returns c = asked _ (asked _ (asked _ (asked _ (c .before .before .before .before .then-size .ensures) (c .before .before .before .then-size2 .ensures)) (c .before .before .then-matrix .ensures)) (c .before .then-buffer .ensures)) (c .then-buffer2 .ensures)
 
 pub row-spec : {M : Type 1} → statement M
 row-spec =

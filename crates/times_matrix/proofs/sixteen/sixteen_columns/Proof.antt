@@ -1,4 +1,5 @@
 -- `sixteen::sixteen_columns` meets its contract: a loop that adds each of the sixteen entries' terms to its own +0. Assumes nothing.
+use mathlib.Core.Path.{refl}
 use Prim.Native.Nat.{_+_, _-_, _*_, _<_, _≤_}
 use native.Mathlib.Omega.{arith}
 use lib.ListN.{length}
@@ -6,7 +7,7 @@ use denote.Ref.{now}
 use lib.Ieee.{binary32}
 use Rattle.grids.specs.Grid.{cell}
 use Rattle.grids.proofs.Grids.{row-in}
-use Rattle.entries.proofs.Totals.{AddingFour, zero-bits, four-begun, four-gained, all-four}
+use Rattle.entries.proofs.Totals.{AddingFour, zero-bits, four-begun, four-in-row, all-four}
 use Rattle.times_matrix.proofs.sixteen.sixteen_columns.Statement.{statement}
 use Rattle.times_matrix.proofs.sixteen.sixteen_columns.Tie as tie
 
@@ -38,11 +39,12 @@ loop-holds c =
 loop-again : tie.Need-loop-again Inv-loop μ-loop
 loop-again c =
     let top = c .before .before .before .before .before .before in
+    let m = top .before .before .before .args .cols in
     let in-turn = c .before .before .before .before .before .loop-test .taken in (
-      four-gained (top .loop .inv .0) in-turn (c .before .before .before .more .ensures) (omega arith) (omega arith) (omega arith) (omega arith),
-      four-gained (top .loop .inv .1) in-turn (c .before .before .more2 .ensures) (omega arith) (omega arith) (omega arith) (omega arith),
-      four-gained (top .loop .inv .2) in-turn (c .before .more3 .ensures) (omega arith) (omega arith) (omega arith) (omega arith),
-      four-gained (top .loop .inv .3) in-turn (c .more4 .ensures) (omega arith) (omega arith) (omega arith) (omega arith),
+      four-in-row m (top .loop .inv .0) in-turn (c .before .before .before .more .ensures) (omega arith),
+      four-in-row m (top .loop .inv .1) in-turn (c .before .before .more2 .ensures) refl,
+      four-in-row m (top .loop .inv .2) in-turn (c .before .more3 .ensures) refl,
+      four-in-row m (top .loop .inv .3) in-turn (c .more4 .ensures) refl,
     )
 
 returns : tie.Need-returns Inv-loop μ-loop

@@ -1,11 +1,11 @@
--- `stream::move_down` is safe and ends: the target stays at or below the source, and the measure is what is left of the slice.
+-- `move_down` is safe and ends: the target stays at or below the source, and the measure is what is left of the slice.
 -- Assumes nothing.
 use mathlib.Core.Path.{_≡_}
 use Prim.Native.Nat.{_-_, _≤_}
 use lib.ListN.{length}
 use borrow.Author.Needs.{needs}
-use Rattle.vectors.proofs.stream.move_down.Statement.{statement}
-use Rattle.vectors.proofs.stream.move_down.Tie as tie
+use Rattle.refills.proofs.move_down.Statement.{statement}
+use Rattle.refills.proofs.move_down.Tie as tie
 
 abbrev Inv-loop : tie.InvT-loop
 Inv-loop space₀ from to₀ i₀ space to i = (to ≤ i) × (length space ≡ length space₀)

@@ -1,12 +1,12 @@
--- `stream::lines_end` meets its contract: what comes back is never above the length, and `take` of so many has that length.
+-- `lines_end` meets its contract: what comes back is never above the length, and `take` of so many has that length.
 -- The measure is the position, which falls. Assumes nothing.
 use mathlib.Core.Path.{sym}
 use Prim.Native.Nat.{_≤_}
 use lib.Seq.{length-take-le}
 use lib.ListN.{length}
 use borrow.Author.Needs.{needs}
-use Rattle.vectors.proofs.stream.lines_end.Statement.{statement}
-use Rattle.vectors.proofs.stream.lines_end.Tie as tie
+use Rattle.refills.proofs.lines_end.Statement.{statement}
+use Rattle.refills.proofs.lines_end.Tie as tie
 
 abbrev Inv-loop : tie.InvT-loop
 Inv-loop space got i₀ i = i ≤ length space
