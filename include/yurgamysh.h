@@ -21,10 +21,10 @@
    infinities and NaN among them. Such a call answers or refuses. No call allocates, fails to return,
    or keeps a pointer; two threads may call at the same time, each with its own written buffers.
 
-   Stack that a call takes, its parameters included, as measured on x86-64: a prediction about 1.4 kB
-   and a correction 1.9 kB at n = m = 1, 1.5 kB and 2.0 kB at n = m = 16. Half of it or more is room
-   for one matrix, at every size. A call of the one-state record takes 0.1 kB. On Arm each of these is
-   the same within 0.1 kB.
+   Stack that a call takes, its parameters included, as measured on x86-64: a prediction about 1.5 kB
+   at every size, a correction 1.9 kB at n = m = 1 and 2.1 kB at n = m = 16. Half of it or more is room
+   for one matrix, at every size. A call of the one-state record takes 0.1 kB. On Arm a prediction
+   takes 1.4 kB, a correction 2.0 kB.
 
    The answer is one number: 0 where the call did its work, else 100 times the refusal's number plus
    what it carries. yurgamysh_answer_of and yurgamysh_carried_by take it apart.
