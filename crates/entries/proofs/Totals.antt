@@ -75,7 +75,7 @@ module _ {f : Format} {y : ℕ → Float} {l : List Float} {place : ℕ → ℕ 
   }
 
   -- the same where the four places lie side by side from p on
-  pub four-gained :
+  four-gained :
       {t0 t1 t2 t3 v0 v1 v2 v3 : Float} {k p : ℕ} → AddingFour f y l place n j t0 t1 t2 t3 k → k < n
       → (v0 ≡ add f t0 (mul f (y k) (getD l p nan))) × (v1 ≡ add f t1 (mul f (y k) (getD l (p + 1) nan)))
       × (v2 ≡ add f t2 (mul f (y k) (getD l (p + 2) nan))) × (v3 ≡ add f t3 (mul f (y k) (getD l (p + 3) nan)))

@@ -103,17 +103,3 @@ unfolding columnCopyAnswer
 column-fits rows cols la lb c q d e =
     let h = fit (rows ∷ cols ∷ []) (lent (rows * cols) la ∷ lent rows lb ∷ []) (columnBelow c cols ∷ []) (accepted q d e) in
     (h .2 .0, h .1 .0, h .1 .1 .0)
-
--- The tests of a row copy, one after the other.
-pub row-asked :
-    (rows cols la lb r : ℕ) {u v w : Answer} → u ≡ matrixAnswer rows cols la → v ≡ firstOf u (bufferTest 1 cols lb) → w ≡ firstOf v (placeTest 0 r rows)
-    → w ≡ rowCopyAnswer rows cols la lb r
-unfolding matrixAnswer rowCopyAnswer
-row-asked rows cols la lb r p q s = simp (s, q, p)
-
--- Those of a column copy.
-pub column-asked :
-    (rows cols la lb c : ℕ) {u v w : Answer} → u ≡ matrixAnswer rows cols la → v ≡ firstOf u (bufferTest 1 rows lb) → w ≡ firstOf v (placeTest 1 c cols)
-    → w ≡ columnCopyAnswer rows cols la lb c
-unfolding matrixAnswer columnCopyAnswer
-column-asked rows cols la lb c p q s = simp (s, q, p)

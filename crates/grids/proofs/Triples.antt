@@ -4,23 +4,17 @@ use mathlib.Core.Bool.{Bool, true}
 use mathlib.Core.List.{[], _∷_}
 use Prim.Native.Nat.{ℕ, _*_, _≤_}
 use Rattle.answers.specs.declared.Answer.{Answer}
-use Rattle.answers.specs.Answers.{isDone, firstOf}
-use Rattle.answers.specs.Tests.{bufferTest, lent}
+use Rattle.answers.specs.Answers.{isDone}
+use Rattle.answers.specs.Tests.{lent}
 use Rattle.answers.proofs.Fit.{fit}
 use Rattle.answers.proofs.Kept.{accepted}
 use Rattle.answers.proofs.Shorter.{few}
-use Rattle.grids.specs.Cells.{pairAnswer}
 use Rattle.grids.specs.Sums.{tripleAnswer}
 
 -- three matrices of rows by cols, in buffers of la, lb and lc numbers
 pub record Three (rows cols la lb lc : ℕ) : Type 0 where
   pub cells-few : rows * cols ≤ 256
   pub all-hold : (rows * cols ≤ la) × (rows * cols ≤ lb) × (rows * cols ≤ lc)
-
--- The tests of three matrices: those of two, and then the third's.
-pub triple-asked : (rows cols la lb lc : ℕ) {u v : Answer} → u ≡ pairAnswer rows cols la lb → v ≡ firstOf u (bufferTest 2 (rows * cols) lc) → v ≡ tripleAnswer rows cols la lb lc
-unfolding pairAnswer tripleAnswer
-triple-asked rows cols la lb lc p q = simp (q, p)
 
 -- Where the answer for three matrices is done, each buffer holds its own.
 pub triple-fits : (rows cols la lb lc : ℕ) {v : Answer} {b : Bool} → v ≡ tripleAnswer rows cols la lb lc → b ≡ isDone v → b ≡ true → Three rows cols la lb lc
