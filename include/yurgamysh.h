@@ -35,7 +35,8 @@
      200 + k   YURGAMYSH_SHORT   buffer k is shorter than its matrix, the first such  all as lent
      300 + k   YURGAMYSH_RANGE   the row (k = 0) or the column (k = 1) is not below   all as lent
                                  its size, the row first
-     400 + i   YURGAMYSH_PIVOT   pivot i is not above zero, NaN included, the first   see the function
+     400 + i   YURGAMYSH_PIVOT   pivot i is not above zero, or not finite, NaN        see the function
+                                 included, the first such
 
    They are tested in this order. Sizes and buffers count from 0 in the order of the parameters. Which
    NaN a NaN is (its sign and payload) is not decided. */
@@ -121,8 +122,8 @@ size_t yurgamysh_innovation(size_t n, size_t m,
 /* x = x + K*y and P = P - K*H*P, with the gain K = P*H^T*S^-1 of S = H*P*H^T + R.
    S ends as the lower factor of that sum. Refusal YURGAMYSH_PIVOT leaves x, P, K, temp_S_inv,
    temp_PHt and temp_KHP as lent, temp_HP as H*P, and S as yurgamysh_cholesky_decompose_lower leaves
-   it. Sizes: 0 n, 1 m. Buffers: 0 x, 1 P, 2 H, 3 R, 4 y, 5 S, 6 K, 7 temp_S_inv, 8 temp_HP,
-   9 temp_PHt, 10 temp_KHP. */
+   it. An infinity or a NaN on the diagonal of R is always refused so. Sizes: 0 n, 1 m. Buffers: 0 x,
+   1 P, 2 H, 3 R, 4 y, 5 S, 6 K, 7 temp_S_inv, 8 temp_HP, 9 temp_PHt, 10 temp_KHP. */
 size_t yurgamysh_update(size_t n, size_t m,
                         float *x, size_t x_len,
                         float *p, size_t p_len,
@@ -168,7 +169,8 @@ size_t yurgamysh_one_state_correct(float *record, size_t record_len, float z);
 /* The lower Cholesky factor of the symmetric n by n matrix t, in t; the strict upper triangle ends
    as +0. Only the upper triangle and the diagonal are read. Refusal YURGAMYSH_PIVOT at i leaves the
    columns before i of the lower triangle done, (i, i) as the refused pivot times the reciprocal of
-   the root before it (times +0 where i is 0), and every other cell as lent. Size 0: n. Buffer 0: t. */
+   the root before it (times +0 where i is 0, so [infinity] leaves NaN), and every other cell as lent.
+   Size 0: n. Buffer 0: t. */
 size_t yurgamysh_cholesky_decompose_lower(size_t n, float *t, size_t t_len);
 
 /* The inverse of L*L^T from its lower factor L; the strict upper triangle of l is not read.

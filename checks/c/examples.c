@@ -3,6 +3,7 @@
 #include "examples.h"
 #include "room.h"
 
+#include <float.h>
 #include <math.h>
 #include <stdio.h>
 
@@ -59,9 +60,10 @@ static void predictions(void) {
 static void decompositions(void) {
     const float factor[] = {2, 0, 1, 2}, inverse[] = {0.3125f, -0.125f, -0.125f, 0.25f},
                 left[] = {1, 2, 2, -3};
-    const float minus_zero[] = {-0.0f}, no_number[] = {NAN}, infinite[] = {INFINITY}, zero[] = {0};
-    float t[] = {4, 2, 2, 5}, lower_ignored[] = {4, 2, NAN, 5}, refused[] = {1, 2, 2, 1}, inv[4],
-          one[1];
+    const float minus_zero[] = {-0.0f}, no_number[] = {NAN}, infinite[] = {INFINITY}, zero[] = {0},
+                largest[] = {18446742974197923840.0f}, stays[] = {2, 2, 1, INFINITY};
+    float t[] = {4, 2, 2, 5}, lower_ignored[] = {4, 2, NAN, 5}, refused[] = {1, 2, 2, 1},
+          second[] = {4, 2, 2, INFINITY}, inv[4], one[1];
     expect("[4 2; 2 5]", yurgamysh_cholesky_decompose_lower(2, t, 4) == 0 && same(4, t, factor));
     expect("with NaN at (1,0)", yurgamysh_cholesky_decompose_lower(2, lower_ignored, 4) == 0 &&
                                     same(4, lower_ignored, factor));
@@ -77,12 +79,18 @@ static void decompositions(void) {
            yurgamysh_cholesky_decompose_lower(1, one, 1) == 400 && same(1, one, no_number));
     one[0] = INFINITY;
     expect("[infinity]",
-           yurgamysh_cholesky_decompose_lower(1, one, 1) == 0 && same(1, one, infinite) &&
-               yurgamysh_invert_l_cholesky(1, one, 1, inv, 1) == 0 && same(1, inv, zero));
+           yurgamysh_cholesky_decompose_lower(1, one, 1) == 400 && same(1, one, no_number));
+    one[0] = FLT_MAX;
+    expect("[the largest]",
+           yurgamysh_cholesky_decompose_lower(1, one, 1) == 0 && same(1, one, largest));
+    expect("[4 2; 2 infinity]",
+           yurgamysh_cholesky_decompose_lower(2, second, 4) == 401 && same(4, second, stays));
+    expect("the inverse from [infinity]",
+           yurgamysh_invert_l_cholesky(1, infinite, 1, inv, 1) == 0 && same(1, inv, zero));
 }
 
 static void corrections(void) {
-    const float h[] = {1}, r[] = {1}, z[] = {5};
+    const float h[] = {1}, r[] = {1}, z[] = {5}, broken[] = {INFINITY};
     float x[] = {1}, p[] = {3}, y[1], s[1], k[] = {7}, s_inv[1], hp[1], pht[1], khp[1];
     float record[YURGAMYSH_RECORD] = {1, 3, 1, 0, 1, 1}, after[] = {4, 0.75f, 1, 0, 1, 1};
     expect("a correction", yurgamysh_correct(1, 1, x, 1, p, 1, h, 1, z, 1, r, 1, y, 1, s, 1, k, 1,
@@ -97,6 +105,15 @@ static void corrections(void) {
            x[0] == 1 && p[0] == -3 && k[0] == 7 && y[0] == 4 && hp[0] == -3);
     expect("the same by record",
            yurgamysh_one_state_correct(record, YURGAMYSH_RECORD, 5) == 0 && same(6, record, after));
+    x[0] = 1;
+    p[0] = 3;
+    expect("an infinite R", yurgamysh_correct(1, 1, x, 1, p, 1, h, 1, z, 1, broken, 1, y, 1, s, 1, k,
+                                              1, s_inv, 1, hp, 1, pht, 1, khp, 1) == 400);
+    expect("its x and P as lent", x[0] == 1 && p[0] == 3 && k[0] == 7 && isnan(s[0]));
+    record[5] = after[5] = INFINITY;
+    expect("an infinite r of the record",
+           yurgamysh_one_state_correct(record, YURGAMYSH_RECORD, 5) == 400 && same(6, record, after));
+    record[5] = after[5] = 1;
     record[1] = after[1] = -3;
     expect("refused by record", yurgamysh_one_state_correct(record, YURGAMYSH_RECORD, 5) == 400 &&
                                     same(6, record, after));

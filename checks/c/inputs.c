@@ -2,6 +2,8 @@
 
 #include "room.h"
 
+#include <math.h>
+
 /* A fixed sequence, so that every run is the same (xorshift, 64 bits). */
 uint32_t draw(void) {
     static uint64_t state = 88172645463325252u;
@@ -32,16 +34,16 @@ void fill_cells(const struct function *f, const struct call *c, size_t k, enum k
     int square = f->shapes[2 * k] == f->shapes[2 * k + 1] && f->shapes[2 * k] < 'a';
     for (i = 0; i < cells; i++)
         at[i] = draw_number(kind);
-    if (square && (kind == POSITIVE || kind == LATE)) {
+    if (square && (kind == POSITIVE || kind == LATE || kind == BROKEN)) {
         size_t n = c->size[f->shapes[2 * k] - '0'];
         for (i = 0; i < n; i++) {
             for (j = 0; j < i; j++)
                 at[i * n + j] = at[j * n + i];
             at[i * n + i] = 200.0f + (float)(draw() % 100u);
         }
-        if (kind == LATE && f->shapes[2 * k] == (char)('0' + f->sizes - 1)) {
+        if (kind != POSITIVE && f->shapes[2 * k] == (char)('0' + f->sizes - 1)) {
             i = draw() % n;
-            at[i * n + i] = -1e7f;
+            at[i * n + i] = kind == LATE ? -1e7f : INFINITY;
         }
     }
 }

@@ -14,6 +14,7 @@ enum kind {
     POSITIVE,  /* square matrices symmetric with a heavy diagonal, so that pivots are above zero */
     LATE, /* the same, but the square of the last size (R, not P) has a cell far below zero on its
              diagonal, so that a later pivot is refused */
+    BROKEN, /* the same with +infinity there */
     KINDS
 };
 

@@ -68,7 +68,7 @@ size_t model_decompose(size_t n, float *t) {
                 sum -= t[i * n + k] * t[j * n + k];
             if (j > i) {
                 t[j * n + i] = sum * d;
-            } else if (sum > 0.0f) {
+            } else if (sum > 0.0f && sum < INFINITY) {
                 t[i * n + i] = model_square_root(sum);
                 d = 1.0f / t[i * n + i];
             } else {

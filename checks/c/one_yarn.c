@@ -12,7 +12,7 @@ int main(void) {
         printf("x is %g, P is %g\n", x[0], p[0]);
         return 0;
     case YURGAMYSH_PIVOT:
-        printf("pivot %zu is not above zero: x and P stay\n", yurgamysh_carried_by(code));
+        printf("pivot %zu is refused: x and P stay\n", yurgamysh_carried_by(code));
         return 1;
     default:
         printf("refused with %zu\n", code);

@@ -53,6 +53,8 @@ functions! {
     Correct "correct"
     Innovation "innovation"
     UpdateWithInnovation "update_with_innovation"
+    OneStatePredict "one_state_predict"
+    OneStateCorrect "one_state_correct"
 }
 
 /// Which of row and column a call takes.
@@ -74,7 +76,7 @@ impl Function {
         use Function::*;
         match self {
             Mult | MultBuffered | MultTransb | MultaddTransb | MultscaleTransb => 3,
-            Recip | SquareRoot => 0,
+            Recip | SquareRoot | OneStatePredict | OneStateCorrect => 0,
             SetSymmetric
             | SetDiagonalToScalar
             | MakeScalar
@@ -112,7 +114,7 @@ impl Function {
         use Function::*;
         match self {
             Set | SetSymmetric | SetAll | SetDiagonalToScalar | MakeScalar | MultscaleTransb
-            | Recip | SquareRoot => 1,
+            | Recip | SquareRoot | OneStateCorrect => 1,
             MakeComatrix => 2,
             _ => 0,
         }
@@ -130,6 +132,7 @@ impl Function {
         use Function::*;
         match self {
             Recip | SquareRoot => vec![],
+            OneStatePredict | OneStateCorrect => vec![6],
             SetSymmetric
             | SetDiagonalToScalar
             | MakeScalar
@@ -206,6 +209,7 @@ pub enum Tag {
     Fill,
     Pivot,
     NanPivot,
+    InfinitePivot,
     Verdict,
 }
 
@@ -218,6 +222,7 @@ pub const TAGS: &[Tag] = &[
     Tag::Fill,
     Tag::Pivot,
     Tag::NanPivot,
+    Tag::InfinitePivot,
     Tag::Verdict,
 ];
 
@@ -232,6 +237,7 @@ impl Tag {
             Tag::Fill => "fill",
             Tag::Pivot => "pivot",
             Tag::NanPivot => "nan_pivot",
+            Tag::InfinitePivot => "infinite_pivot",
             Tag::Verdict => "verdict",
         }
     }

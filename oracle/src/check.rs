@@ -100,6 +100,6 @@ fn report(all: &BTreeMap<Function, Counts>) {
     println!("{lines} lines, {bytes} bytes, the longest line {longest} bytes");
     for t in TAGS {
         let n: u64 = all.values().filter_map(|c| c.tags.get(t)).sum();
-        println!("  {:<10} {n}", t.name())
+        println!("  {:<14} {n}", t.name())
     }
 }

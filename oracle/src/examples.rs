@@ -160,26 +160,35 @@ pub fn all() -> Vec<Example> {
             0,
         ),
     ];
-    let mut nan = refused(
+    for (what, pivot) in [("[NaN] is refused", NAN), ("[+infinity] is refused", INF)] {
+        let mut e = refused(
+            done(what, CholeskyDecomposeLower, &[1], &[&[pivot]], &[&[NAN]]),
+            4,
+            0,
+        );
+        e.differs = true;
+        out.push(e)
+    }
+    let mut second = refused(
         done(
-            "[NaN] is refused",
+            "[4 2; 2 +infinity] is refused",
             CholeskyDecomposeLower,
-            &[1],
-            &[&[NAN]],
-            &[&[NAN]],
+            &[2],
+            &[&[4.0, 2.0, 2.0, INF]],
+            &[&[2.0, 2.0, 1.0, INF]],
         ),
         4,
-        0,
+        1,
     );
-    nan.differs = true;
-    out.push(nan);
+    second.differs = true;
+    out.push(second);
     out.extend([
         done(
-            "[+infinity] decomposes",
+            "[3.4028235e38] decomposes",
             CholeskyDecomposeLower,
             &[1],
-            &[&[INF]],
-            &[&[INF]],
+            &[&[f32::MAX]],
+            &[&[bits(0x5f7f_ffff)]],
         ),
         done(
             "[+infinity] inverts",
@@ -288,6 +297,65 @@ pub fn all() -> Vec<Example> {
             &[&before],
         ))
     }
+    // R = +infinity: S is, and the correction is refused; so is the record's.
+    let rest: &[f32] = &[7.0];
+    let mut wire = refused(
+        done(
+            "x = 1, P = 3, H = 1, R = +infinity, z = 5 is refused",
+            Correct,
+            &[1, 1],
+            &[
+                &[1.0],
+                &[3.0],
+                &[1.0],
+                &[5.0],
+                &[INF],
+                rest,
+                rest,
+                rest,
+                rest,
+                rest,
+                rest,
+                rest,
+            ],
+            &[
+                &[1.0],
+                &[3.0],
+                &[1.0],
+                &[5.0],
+                &[INF],
+                &[4.0],
+                &[NAN],
+                rest,
+                rest,
+                &[3.0],
+                rest,
+                rest,
+            ],
+        ),
+        4,
+        0,
+    );
+    wire.differs = true;
+    out.push(wire);
+    let record = |what, before: [f32; 6], after: [f32; 6]| {
+        let mut e = done(what, OneStateCorrect, &[], &[&before], &[&after]);
+        e.call.scalars = vec![5.0];
+        e
+    };
+    out.push(record(
+        "the record x = 1, p = 3, h = r = 1, z = 5",
+        [1.0, 3.0, 1.0, 0.0, 1.0, 1.0],
+        [4.0, 0.75, 1.0, 0.0, 1.0, 1.0],
+    ));
+    let broken = [1.0, 3.0, 1.0, 0.0, 1.0, INF];
+    let mut wire = refused(
+        record("the record with r = +infinity is refused", broken, broken),
+        4,
+        0,
+    );
+    wire.differs = true;
+    out.push(wire);
     // Two inputs that tell a sum of floats that starts at -0 from one that starts at +0.
     out.push(done(
         "[1 0; 0 -1] inverts with +0 off the diagonal",

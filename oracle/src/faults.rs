@@ -15,14 +15,17 @@ pub enum Fault {
     FarEnd,
     /// The products with a vector start at +0.
     RowVectorStart,
+    /// A pivot of +infinity is taken.
+    TakesInfinity,
 }
 
-pub const NAMES: [(&str, Fault); 5] = [
+pub const NAMES: [(&str, Fault); 6] = [
     ("fused_multiply_add", Fault::FusedMultiplyAdd),
     ("zero_start", Fault::ZeroStart),
     ("one_reciprocal", Fault::OneReciprocal),
     ("far_end", Fault::FarEnd),
     ("row_vector_start", Fault::RowVectorStart),
+    ("takes_infinity", Fault::TakesInfinity),
 ];
 
 thread_local! {

@@ -224,6 +224,12 @@ fn main() {
     row("cholesky_decompose_lower, NaN above the diagonal", "[4 NaN; 2 5]", "matrix", vec![vec![4.0, NAN, 2.0, 5.0]],
         |b| verdict(Lent::<2, 2>(&mut b[0]).cholesky_decompose_lower()),
         "refusal 4, pivot 1; matrix [40000000 NaN NaN NaN]: column 0 done, (1,1) holds sum·d");
+    row("cholesky_decompose_lower, infinite pivot", "[∞]", "matrix", vec![vec![f32::INFINITY]],
+        |b| verdict(Lent::<1, 1>(&mut b[0]).cholesky_decompose_lower()),
+        "refusal 4, pivot 0; cell NaN, ∞ times +0");
+    row("cholesky_decompose_lower, infinite pivot", "[4 2; 2 ∞]", "matrix", vec![vec![4.0, 2.0, 2.0, f32::INFINITY]],
+        |b| verdict(Lent::<2, 2>(&mut b[0]).cholesky_decompose_lower()),
+        "refusal 4, pivot 1; matrix [40000000 40000000 3f800000 7f800000]");
     row("cholesky_decompose_lower, infinity minus infinity", "[1 ∞; ∞ ∞]", "matrix",
         vec![vec![1.0, f32::INFINITY, f32::INFINITY, f32::INFINITY]],
         |b| verdict(Lent::<2, 2>(&mut b[0]).cholesky_decompose_lower()),
@@ -235,6 +241,12 @@ fn main() {
     row("correct, NaN pivot", "x = 1, P = NaN, H = R = 1, z = 5; the rest 7", TWELVE, one(1.0, NAN, 5.0, 1.0, None),
         |b| { correct::<1, 1>(b, |_| {}); none() },
         "refusal 4, pivot 0; y [40800000], S [NaN], temp_HP [NaN], the rest as lent");
+    row("correct, R = ∞", "x = 1, P = 3, H = 1, R = ∞, z = 5; the rest 7", TWELVE, one(1.0, 3.0, 5.0, f32::INFINITY, None),
+        |b| { correct::<1, 1>(b, |_| {}); none() },
+        "refusal 4, pivot 0; y [40800000], S [NaN], temp_HP [40400000], the rest as lent");
+    row("correct, P = ∞", "x = 1, P = ∞, H = R = 1, z = 5; the rest 7", TWELVE, one(1.0, f32::INFINITY, 5.0, 1.0, None),
+        |b| { correct::<1, 1>(b, |_| {}); none() },
+        "refusal 4, pivot 0; y [40800000], S [NaN], temp_HP [7f800000], the rest as lent");
     row("correct, the verdict is not read", "x = 1, P = −3, H = R = 1, z = 5; the rest 7", TWELVE, one(1.0, -3.0, 5.0, 1.0, None),
         |b| { correct::<1, 1>(b, |_| {}); none() },
         "refusal 4, pivot 0; y [40800000], S [80000000], temp_HP [c0400000], the rest as lent");
@@ -386,10 +398,4 @@ fn main() {
     row("correct, a bad reading", "x = 1, P = 3, H = R = 1, z = NaN; the rest 7", TWELVE, one(1.0, 3.0, NAN, 1.0, None),
         |b| { correct::<1, 1>(b, |_| {}); none() },
         "the same: z does not enter S, so no pivot shows it");
-    row("correct, R = ∞", "x = 1, P = 3, H = 1, R = ∞, z = 5; the rest 7", TWELVE, one(1.0, 3.0, 5.0, f32::INFINITY, None),
-        |b| { correct::<1, 1>(b, |_| {}); none() },
-        "the same: accepted, gain +0");
-    row("correct, P = ∞", "x = 1, P = ∞, H = R = 1, z = 5; the rest 7", TWELVE, one(1.0, f32::INFINITY, 5.0, 1.0, None),
-        |b| { correct::<1, 1>(b, |_| {}); none() },
-        "the same: accepted, gain NaN");
 }

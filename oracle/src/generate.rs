@@ -26,13 +26,13 @@ pub fn weight(plan: Plan, f: Function) -> usize {
         (Plan::Even, Mult | MultBuffered | MultTransb | MultaddTransb | MultscaleTransb) => 3,
         (Plan::Even, CholeskyDecomposeLower | Correct) => 5,
         (Plan::Even, UpdateWithInnovation | Predict) => 3,
-        (Plan::Even, InvertLCholesky) => 2,
+        (Plan::Even, InvertLCholesky | OneStateCorrect) => 2,
         (Plan::Even, _) => 1,
         (Plan::Small, Recip) => 4,
         (Plan::Small, SquareRoot) => 9,
         (Plan::Small, CholeskyDecomposeLower) => 5,
         (Plan::Small, Correct | Mult | MultBuffered | MultTransb) => 2,
-        (Plan::Small, MultaddTransb | MultscaleTransb) => 2,
+        (Plan::Small, MultaddTransb | MultscaleTransb | OneStateCorrect) => 2,
         (Plan::Small, _) => 1,
     }
 }
@@ -99,7 +99,7 @@ fn call(plan: Plan, seed: u64, f: Function, count: u64) -> Call {
     if f.sizes() > 0 && count % every == every - 1 {
         let draw = if plan == Plan::Small { few } else { skewed };
         let sizes: Vec<_> = (0..f.sizes()).map(|_| draw(r)).collect();
-        let mut call = accepted(r, f, sizes);
+        let mut call = accepted(r, f, sizes, None);
         spoil(r, &mut call);
         return call;
     }
@@ -108,7 +108,42 @@ fn call(plan: Plan, seed: u64, f: Function, count: u64) -> Call {
         Plan::Even => even(seed, f, turn),
         Plan::Small => small(r, f, turn as usize),
     };
-    accepted(r, f, sizes)
+    let infinite = match (plan, f) {
+        (Plan::Even, Function::CholeskyDecomposeLower) => infinite_at(turn, sizes[0]),
+        _ => None,
+    };
+    accepted(r, f, sizes, infinite)
+}
+
+/// Where a decomposition of a list has +infinity on its diagonal: in every sixth round of the sizes, at the
+/// next index each time. 96 rounds, 1,536 accepted lines, have it at each index of each size.
+fn infinite_at(turn: u64, n: usize) -> Option<usize> {
+    let round = turn / 16;
+    (round % 6 == 5).then(|| (round / 6) as usize % n)
+}
+
+/// For a short list: +infinity on the diagonal at each index, of a matrix to decompose and of R, and records
+/// whose r is +infinity.
+pub fn infinite_pivots(seed: u64) -> Vec<Call> {
+    use Function::*;
+    let matrices = [1, 2, 3, 4, 5, 6, 9, 16].map(|n| vec![n]);
+    let filters = [[1, 1], [2, 1], [2, 2], [4, 2], [3, 3], [6, 3], [9, 3]].map(|s| s.to_vec());
+    let mut out = vec![];
+    let mut add = |f: Function, sizes: &[usize], indices: usize| {
+        for i in 0..indices {
+            let r = &mut Random::new(seed, f as u64, u64::MAX - 1 - out.len() as u64);
+            out.push(accepted(r, f, sizes.to_vec(), Some(i)))
+        }
+    };
+    matrices
+        .iter()
+        .for_each(|s| add(CholeskyDecomposeLower, s, s[0]));
+    filters.iter().for_each(|s| add(Correct, s, s[1]));
+    filters
+        .iter()
+        .for_each(|s| add(UpdateWithInnovation, s, s[1]));
+    add(OneStateCorrect, &[], 6);
+    out
 }
 
 /// The turn-th combination of sizes, in an order in which all come before any comes again.
@@ -342,8 +377,8 @@ fn prediction(r: &mut Random, n: usize) -> [Vec<f32>; 4] {
     }
 }
 
-/// x, P, H, z, R of a correction.
-fn correction(r: &mut Random, n: usize, m: usize) -> [Vec<f32>; 5] {
+/// x, P, H, z, R of a correction; R with +infinity on its diagonal at this index, if one is given.
+fn correction(r: &mut Random, n: usize, m: usize, infinite: Option<usize>) -> [Vec<f32>; 5] {
     let x = if r.one_in(5) {
         any(r, n)
     } else {
@@ -362,6 +397,10 @@ fn correction(r: &mut Random, n: usize, m: usize) -> [Vec<f32>; 5] {
             .collect(),
         _ => numbers(r, Kind::Ordinary, m * n),
     };
+    if let Some(at) = infinite {
+        let p = symmetric(r, Shape::Good, n);
+        return [x, p, h, z, symmetric(r, Shape::InfiniteAt(at), m)];
+    }
     match r.below(100) {
         0..=29 => {
             let p = r.pick(&[Shape::Good, Shape::Good, Shape::Diagonal]);
@@ -415,6 +454,11 @@ fn correction(r: &mut Random, n: usize, m: usize) -> [Vec<f32>; 5] {
             let noise = r.pick(&[Shape::Infinite, Shape::Ends]);
             [x, p, h, z, symmetric(r, noise, m)]
         }
+        90..=93 => {
+            let p = symmetric(r, Shape::Good, n);
+            let at = r.below(m);
+            [x, p, h, z, symmetric(r, Shape::InfiniteAt(at), m)]
+        }
         _ => {
             let (p, noise) = (shape(r), shape(r));
             [
@@ -428,8 +472,38 @@ fn correction(r: &mut Random, n: usize, m: usize) -> [Vec<f32>; 5] {
     }
 }
 
-/// A call that passes refusals 1 to 3.
-fn accepted(r: &mut Random, f: Function, sizes: Vec<usize>) -> Call {
+/// x, p, a, q, h, r of one yarn; r is +infinity if that is asked for.
+fn yarn(r: &mut Random, infinite: bool) -> Vec<f32> {
+    let model = |r: &mut Random, kind: Kind| {
+        let mut out = numbers(r, kind, 6);
+        // p, q and r are spreads
+        for at in [1, 3, 5] {
+            out[at] = out[at].abs()
+        }
+        out
+    };
+    let mut out = match r.below(10) {
+        0..=3 => model(r, Kind::Ordinary),
+        4 => model(r, Kind::Whole),
+        5 => model(r, Kind::Wide),
+        6 => {
+            let kind = r.pick(&[Kind::Tiny, Kind::Huge]);
+            model(r, kind)
+        }
+        _ => any(r, 6),
+    };
+    if infinite || r.one_in(12) {
+        out[5] = f32::INFINITY
+    } else if r.one_in(12) {
+        let at = r.below(6);
+        out[at] = number(r, Kind::Specials)
+    }
+    out
+}
+
+/// A call that passes refusals 1 to 3; with +infinity on the diagonal of its matrix, or of its R, at the
+/// index given.
+fn accepted(r: &mut Random, f: Function, sizes: Vec<usize>, infinite: Option<usize>) -> Call {
     use Function::*;
     let needs = f.needs(&sizes);
     let rows = sizes.first().copied().unwrap_or(1);
@@ -460,9 +534,10 @@ fn accepted(r: &mut Random, f: Function, sizes: Vec<usize>) -> Call {
     };
     let mut lent: Vec<Vec<f32>> = match f {
         CholeskyDecomposeLower => {
-            let shape = shape(r);
+            let shape = infinite.map_or_else(|| shape(r), Shape::InfiniteAt);
             vec![symmetric(r, shape, sizes[0])]
         }
+        OneStatePredict | OneStateCorrect => vec![yarn(r, infinite.is_some())],
         InvertLCholesky => vec![factor(r, sizes[0]), scratch(r, needs[1])],
         Predict | PredictX | PredictP => {
             let [x, a, p, q] = prediction(r, sizes[0]);
@@ -475,7 +550,7 @@ fn accepted(r: &mut Random, f: Function, sizes: Vec<usize>) -> Call {
             }
         }
         Correct | Innovation | UpdateWithInnovation => {
-            let [x, p, h, z, noise] = correction(r, sizes[0], sizes[1]);
+            let [x, p, h, z, noise] = correction(r, sizes[0], sizes[1], infinite);
             if f == Innovation {
                 vec![x, h, z, scratch(r, needs[3])]
             } else {
@@ -510,7 +585,9 @@ fn accepted(r: &mut Random, f: Function, sizes: Vec<usize>) -> Call {
                 .collect()
         }
     };
-    if r.one_in(2) {
+    // a record is six numbers, and nothing behind them
+    let tails = !matches!(f, OneStatePredict | OneStateCorrect);
+    if tails && r.one_in(2) {
         for b in &mut lent {
             for _ in 0..r.below(5) {
                 b.push(mark(r))

@@ -193,6 +193,8 @@ pub enum Shape {
     NanPivot,
     /// Good, with an infinity on the diagonal or above it.
     Infinite,
+    /// Good, with +infinity on the diagonal at this index.
+    InfiniteAt(usize),
     /// Good, scaled to the ends of the range.
     Ends,
     /// Numbers of any kind, symmetric.
@@ -287,6 +289,11 @@ pub fn symmetric(r: &mut Random, shape: Shape, n: usize) -> Vec<f32> {
         Shape::Infinite => {
             let mut out = good(r, n, power);
             out[at * n + right] = r.pick(&[f32::INFINITY, f32::INFINITY, f32::NEG_INFINITY]);
+            out
+        }
+        Shape::InfiniteAt(index) => {
+            let mut out = good(r, n, power);
+            out[index * n + index] = f32::INFINITY;
             out
         }
         Shape::Ends => {

@@ -12,7 +12,7 @@ mod selftest;
 
 use calls::{write_line, Function, Tag, ALL};
 use faults::Fault;
-use generate::{Calls, Plan};
+use generate::{infinite_pivots, Calls, Plan};
 use std::io::{BufWriter, Write};
 use std::process::ExitCode;
 
@@ -138,10 +138,11 @@ fn list(
         "# Made by: oracle {mode}--seed {seed} --lines {count}, functions: {names}"
     ))?;
     let mut line = String::new();
-    let examples: Vec<_> = match plan {
-        Plan::Small => examples::all().into_iter().map(|e| e.call).collect(),
-        Plan::Even => vec![],
-    };
+    let mut examples: Vec<_> = vec![];
+    if plan == Plan::Small {
+        examples.extend(examples::all().into_iter().map(|e| e.call));
+        examples.extend(infinite_pivots(seed))
+    }
     let examples = examples
         .into_iter()
         .filter(|c| functions.contains(&c.function));

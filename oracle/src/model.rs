@@ -173,6 +173,11 @@ fn rowvector(
     }
 }
 
+/// Whether a pivot is taken: above zero and finite.
+fn taken(pivot: f32) -> bool {
+    pivot > 0.0 && (pivot < f32::INFINITY || planted(Fault::TakesInfinity))
+}
+
 /// Ok, or the refused pivot's index and the pivot.
 pub fn decompose(n: usize, t: &mut [f32]) -> Result<(), (usize, f32)> {
     let mut d = 0.0;
@@ -185,7 +190,7 @@ pub fn decompose(n: usize, t: &mut [f32]) -> Result<(), (usize, f32)> {
             }
             t[j * n + i] = sum * d;
             if i == j {
-                if !(sum > 0.0) {
+                if !taken(sum) {
                     return Err((i, sum));
                 }
                 let root = square_root(sum);
@@ -277,6 +282,31 @@ fn update(n: usize, m: usize, lent: &mut [Vec<f32>]) -> Result<(), (usize, f32)>
     for i in 0..n * n {
         p[i] -= khp[i]
     }
+    Ok(())
+}
+
+/// The record x, p, a, q, h, r of one yarn as buffers for one state.
+fn one_state_predict(yarn: &mut [f32]) {
+    let [x, p, a, q, _, _] = yarn else {
+        panic!("six numbers")
+    };
+    let (mut xs, mut ps) = ([*x], [*p]);
+    predict_x(1, &mut xs, &[*a], &mut [0.0]);
+    predict_p(1, &[*a], &mut ps, &[*q], &mut [0.0]);
+    (*x, *p) = (xs[0], ps[0])
+}
+
+/// The record after the reading z, by the general filter's steps for one state and one observation.
+fn one_state_correct(yarn: &mut [f32], z: f32) -> Result<(), (usize, f32)> {
+    let [x, p, _, _, h, r] = yarn else {
+        panic!("six numbers")
+    };
+    let mut y = [0.0];
+    innovation(1, 1, &[*x], &[*h], &[z], &mut y);
+    let mut lent: Vec<Vec<f32>> = [*x, *p, *h, *r, y[0]].map(|v| vec![v]).into();
+    lent.extend(vec![vec![0.0]; 6]);
+    update(1, 1, &mut lent)?;
+    (*x, *p) = (lent[0][0], lent[1][0]);
     Ok(())
 }
 
@@ -388,6 +418,8 @@ pub fn answer(call: &Call) -> (Answer, Option<f32>) {
         }
         (Innovation, [x, h, z, y]) => innovation(s[0], s[1], x, h, z, y),
         (UpdateWithInnovation, _) => pivot = update(s[0], s[1], &mut lent),
+        (OneStatePredict, [yarn]) => one_state_predict(yarn),
+        (OneStateCorrect, [yarn]) => pivot = one_state_correct(yarn, v[0]),
         _ => panic!("{}: a wrong number of buffers", call.function.name()),
     }
     match pivot {

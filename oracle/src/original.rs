@@ -78,6 +78,20 @@ pub fn run(call: &Call) -> Outcome {
             lent.remove(4);
             lent.remove(0);
         }
+        // One yarn: the filter for one state and one observation.
+        OneStatePredict => {
+            let [x, p, a, q] = [0, 1, 2, 3].map(|i| lent[0][i]);
+            let mut all: Vec<_> = [x, a, p, q, 0.0, 0.0].map(|v| vec![v]).into();
+            verdict = pairs::run_square(Square::Predict, 1, at, v, &mut all);
+            (lent[0][0], lent[0][1]) = (all[0][0], all[2][0])
+        }
+        OneStateCorrect => {
+            let [x, p, h, r] = [0, 1, 4, 5].map(|i| lent[0][i]);
+            let mut all: Vec<_> = [x, p, h, v[0], r].map(|v| vec![v]).into();
+            all.extend(vec![vec![0.0]; 7]);
+            pairs::run_filter(Filter::Correct, 1, 1, &mut all);
+            (lent[0][0], lent[0][1]) = (all[0][0], all[1][0])
+        }
         Correct => pairs::run_filter(Filter::Correct, s[0], s[1], &mut lent),
         UpdateWithInnovation => {
             lent.insert(3, vec![0.0; s[1]]);
@@ -127,6 +141,7 @@ pub fn answer(call: &Call) -> Result<(Tag, Answer), String> {
         2 => return Ok((Tag::Short, expected)),
         3 => return Ok((Tag::Place, expected)),
         4 if pivot.is_some_and(f32::is_nan) => Tag::NanPivot,
+        4 if pivot == Some(f32::INFINITY) => Tag::InfinitePivot,
         4 if call.function == CholeskyDecomposeLower => Tag::Pivot,
         4 => Tag::Verdict,
         _ => match call.function {
@@ -140,13 +155,16 @@ pub fn answer(call: &Call) -> Result<(Tag, Answer), String> {
     let found = run(call);
     let answer = match (tag, call.function) {
         (Tag::RowCopy | Tag::Fill, _) => expected.clone(),
-        (Tag::NanPivot, CholeskyDecomposeLower) => {
-            if !found.verdict {
+        (Tag::NanPivot | Tag::InfinitePivot, CholeskyDecomposeLower) => {
+            if tag == Tag::NanPivot && !found.verdict {
                 return Err("the original refuses a NaN pivot".into());
             }
+            columns_before(call.sizes[0], expected.carried as usize, &found, &expected)?;
             expected.clone()
         }
-        (Tag::NanPivot | Tag::Verdict, _) => {
+        // The original has no record; its S at n = m = 1 is refused, and the record stays.
+        (Tag::NanPivot | Tag::InfinitePivot | Tag::Verdict, OneStateCorrect) => expected.clone(),
+        (Tag::NanPivot | Tag::InfinitePivot | Tag::Verdict, _) => {
             // y and temp_HP as the original computed them, S as the decomposition leaves it,
             // the others as lent.
             let z = usize::from(call.function == Correct);
@@ -163,7 +181,7 @@ pub fn answer(call: &Call) -> Result<(Tag, Answer), String> {
                 &call.lent[r],
                 &call.lent[s],
             );
-            let refused = if tag == Tag::NanPivot {
+            let refused = if tag != Tag::Verdict {
                 model::decompose(call.sizes[1], &mut left).is_err()
             } else {
                 let mut alone = [left];
@@ -209,6 +227,27 @@ pub fn answer(call: &Call) -> Result<(Tag, Answer), String> {
         ));
     }
     Ok((tag, answer))
+}
+
+/// Left of a pivot that the original lets pass, its columns and those of the rules' steps are the same,
+/// from the diagonal down.
+fn columns_before(
+    n: usize,
+    pivot: usize,
+    found: &Outcome,
+    expected: &Answer,
+) -> Result<(), String> {
+    for c in 0..pivot {
+        for r in c..n {
+            let at = r * n + c;
+            if !same(found.lent[0][at], expected.lent[0][at]) {
+                return Err(format!(
+                    "cell ({r}, {c}) left of a pivot that the original lets pass"
+                ));
+            }
+        }
+    }
+    Ok(())
 }
 
 /// The first place where two answers differ.

@@ -11,7 +11,7 @@ pub enum Refusal {
     Short(usize),
     /// The row (0) or the column (1) is not below its size. Everything is as lent.
     Range(usize),
-    /// This pivot, the first such, is not above zero, or is NaN. x and P are as lent.
+    /// This pivot, the first such, is not above zero, or not finite, NaN included. x and P are as lent.
     Pivot(usize),
 }
 
@@ -22,7 +22,7 @@ impl fmt::Display for Refusal {
             Refusal::Short(k) => write!(f, "buffer {k} is shorter than its matrix"),
             Refusal::Range(0) => write!(f, "the row is out of range"),
             Refusal::Range(_) => write!(f, "the column is out of range"),
-            Refusal::Pivot(i) => write!(f, "pivot {i} is not above zero"),
+            Refusal::Pivot(i) => write!(f, "pivot {i} is not above zero, or not finite"),
         }
     }
 }

@@ -144,14 +144,15 @@ fn is_corrected(r: &Room) {
     assert_eq!(r.y, [10.0, TAIL]);
 }
 
-/// What a refused pivot leaves: S = 24 − 100 is below zero.
-fn is_refused(r: &Room) {
+/// What a refused pivot leaves, where S has the pivot times +0: −0 of S = 24 − 100, NaN of 24 + ∞.
+fn is_refused(r: &Room, pivot: f32) {
     let before = room();
     assert_eq!((&r.x, &r.p, &r.k), (&before.x, &before.p, &before.k));
     assert_eq!((&r.s_inv, &r.pht, &r.khp), (&before.s_inv, &before.pht, &before.khp));
     assert_eq!(r.y, [10.0, TAIL]);
     assert_eq!(r.hp, [8.0, 8.0, TAIL]);
-    assert_eq!(r.s.iter().map(|s| s.to_bits()).collect::<Vec<_>>(), [0x8000_0000, TAIL.to_bits()]);
+    assert!(r.s[0].to_bits() == pivot.to_bits() || r.s[0].is_nan() && pivot.is_nan());
+    assert_eq!(r.s[1..], [TAIL]);
 }
 
 fn update_room(sizes: &[usize], l: &[usize], noise: f32, b: &mut Room) -> Result<(), Refusal> {
@@ -200,7 +201,10 @@ fn update_from_an_innovation() {
     is_corrected(&done);
     let mut refused = room();
     assert_eq!(update_room(&[2, 1], &whole, -100.0, &mut refused), Err(Refusal::Pivot(0)));
-    is_refused(&refused);
+    is_refused(&refused, -0.0);
+    let mut broken = room();
+    assert_eq!(update_room(&[2, 1], &whole, f32::INFINITY, &mut broken), Err(Refusal::Pivot(0)));
+    is_refused(&broken, f32::NAN);
     each_short(&needs, |l| update_room(&[2, 1], l, 40.0, &mut room()));
     each_size(&[2, 1], |s| update_room(s, &needs, 40.0, &mut room()));
 }
@@ -216,7 +220,11 @@ fn correction_by_a_reading() {
     let mut refused = room();
     refused.y[0] = 0.0;
     assert_eq!(correct_room(&[2, 1], &whole, -100.0, &mut refused), Err(Refusal::Pivot(0)));
-    is_refused(&refused);
+    is_refused(&refused, -0.0);
+    let mut broken = room();
+    broken.y[0] = 0.0;
+    assert_eq!(correct_room(&[2, 1], &whole, f32::INFINITY, &mut broken), Err(Refusal::Pivot(0)));
+    is_refused(&broken, f32::NAN);
     each_short(&needs, |l| correct_room(&[2, 1], l, 40.0, &mut room()));
     each_size(&[2, 1], |s| correct_room(s, &needs, 40.0, &mut room()));
 }
@@ -232,6 +240,19 @@ fn decomposition_and_inverse() {
     let mut refused = lent(&[1.0, 2.0, 2.0, 1.0]);
     assert_eq!(cholesky_decompose_lower(2, &mut refused), Err(Refusal::Pivot(1)));
     assert_eq!(refused, [1.0, 2.0, 2.0, -3.0, TAIL]);
+    // +∞ is no pivot: at 0 it leaves ∞·(+0), further down it stays. The inverse asks for none.
+    let mut infinite = lent(&[f32::INFINITY]);
+    assert_eq!(cholesky_decompose_lower(1, &mut infinite), Err(Refusal::Pivot(0)));
+    assert!(infinite[0].is_nan() && infinite[1] == TAIL);
+    let mut second = lent(&[4.0, 2.0, 2.0, f32::INFINITY]);
+    assert_eq!(cholesky_decompose_lower(2, &mut second), Err(Refusal::Pivot(1)));
+    assert_eq!(second, [2.0, 2.0, 1.0, f32::INFINITY, TAIL]);
+    let mut largest = lent(&[f32::MAX]);
+    cholesky_decompose_lower(1, &mut largest).unwrap();
+    assert_eq!(largest, [f32::from_bits(0x5f7f_ffff), TAIL]);
+    let mut inv = lent(&[9.0]);
+    invert_l_cholesky(1, &[f32::INFINITY], &mut inv).unwrap();
+    assert_eq!(inv.iter().map(|v| v.to_bits()).collect::<Vec<_>>(), [0, TAIL.to_bits()]);
     each_short(&[4], |l| cholesky_decompose_lower(2, &mut [1.0, 0.0, 0.0, 1.0][..l[0]]));
     each_size(&[2], |s| cholesky_decompose_lower(s[0], &mut [1.0, 0.0, 0.0, 1.0]));
     each_short(&[4, 4], |l| invert_l_cholesky(2, &Q[..l[0]], &mut [0.0; 4][..l[1]]));
@@ -412,10 +433,12 @@ fn records() {
     let mut record = lent(&[1.0, 3.0, 5.0, 7.0, 1.0, 1.0]);
     one_state_correct(&mut record, 5.0).unwrap();
     assert_eq!(record, lent(&[4.0, 0.75, 5.0, 7.0, 1.0, 1.0]));
-    record[1] = -3.0;
-    let before = record.clone();
-    assert_eq!(one_state_correct(&mut record, 5.0), Err(Refusal::Pivot(0)));
-    assert_eq!(record, before);
+    for (p, r) in [(-3.0, 1.0), (0.75, f32::INFINITY), (f32::INFINITY, 1.0)] {
+        (record[1], record[5]) = (p, r);
+        let before = record.clone();
+        assert_eq!(one_state_correct(&mut record, 5.0), Err(Refusal::Pivot(0)));
+        assert_eq!(record, before);
+    }
     each_short(&[6], |l| one_state_correct(&mut [1.0; 6][..l[0]], 5.0));
 }
 

@@ -95,6 +95,14 @@ fn a_refused_correction_leaves_x_and_p() {
     assert_eq!(bits(&f), before);
     assert_eq!(f.correct_with(&mut o, |_| ()), Err(Refusal::Pivot(1)));
     assert_eq!(bits(&f), before);
+    // A wire is broken: its R is infinite. The gain would be zero, and the estimate would look well.
+    for broken in [f32::INFINITY, f32::NAN] {
+        o.measurement_noise_covariance_mut()[1][1] = broken;
+        assert_eq!(f.correct(&mut o), Err(Refusal::Pivot(1)));
+        assert_eq!(bits(&f), before);
+        assert_eq!(f.correct_with(&mut o, |_| ()), Err(Refusal::Pivot(1)));
+        assert_eq!(bits(&f), before);
+    }
     // And the filter goes on once the reading's spread is right again.
     *o.measurement_noise_covariance_mut() = *observation().measurement_noise_covariance();
     assert_eq!(f.correct(&mut o), Ok(()));
@@ -229,7 +237,7 @@ fn refusals_in_words() {
         (Refusal::Short(3), "buffer 3 is shorter than its matrix"),
         (Refusal::Range(0), "the row is out of range"),
         (Refusal::Range(1), "the column is out of range"),
-        (Refusal::Pivot(2), "pivot 2 is not above zero"),
+        (Refusal::Pivot(2), "pivot 2 is not above zero, or not finite"),
     ];
     for (refusal, text) in words {
         assert_eq!(refusal.to_string(), text);

@@ -19,7 +19,7 @@ pub enum Answer {
     Short(usize),
     // Refusal 3: the row (0) or the column (1) is not below its size.
     Range(usize),
-    // Refusal 4: the pivot of this index is not above zero.
+    // Refusal 4: the pivot of this index is not above zero, or not finite, NaN included.
     Pivot(usize),
 }
 

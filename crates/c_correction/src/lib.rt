@@ -23,8 +23,8 @@ pub extern "C" fn yurgamysh_innovation(
     c_codes::code_of(innovations::innovation(n, m, x, h, z, y))
 }
 
-// x and P after an observation whose innovation is y; or the first pivot that is not above zero is
-// named, and x and P are as lent.
+// x and P after an observation whose innovation is y; or the first pivot that is not above zero, or
+// not finite, NaN included, is named, and x and P are as lent.
 #[no_mangle]
 pub extern "C" fn yurgamysh_update(
     n: usize,

@@ -5,7 +5,7 @@ ghost use Rattle.factors.specs.Inverted.{Inverted};
 ghost use Rattle.c_codes.specs.Code.{Told};
 
 // t, of which the diagonal and what lies above it are read, becomes its lower factor; or the first
-// pivot that is not above zero is named.
+// pivot that is not above zero, or not finite, NaN included, is named.
 #[no_mangle]
 pub extern "C" fn yurgamysh_cholesky_decompose_lower(n: usize, t: &mut [f32]) -> usize
     ensures { λ code. ⌜ Told (λ v. Decomposed binary32 n (now (t .entry)) v (now (t .exit))) code ⌝ }

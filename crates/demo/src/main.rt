@@ -1,5 +1,5 @@
-// A feeder's shift: eighteen readings of a yarn's tension, one of which is lost on the wire and one
-// of which is refused. Writes a line for each step, and then what became of the readings.
+// A feeder's shift: eighteen readings of a yarn's tension, one of which is lost on the wire and two
+// of which are refused. Writes a line for each step, and then what became of the readings.
 mod table;
 mod work;
 

@@ -48,11 +48,13 @@ fn outcome(o: Outcome) {
     }
 }
 
-// Behind the answer: that the reading's noise is not a number.
+// Behind the answer: that the reading's noise is not a number, or infinite.
 fn remark(g: Reading) {
     if let Reading::Arrived(_, r) = g {
         if r != r {
             text(b" (R is not a number)");
+        } else if r == 1.0 / 0.0 {
+            text(b" (R is infinite)");
         }
     }
 }
@@ -94,7 +96,7 @@ pub fn foot(t: Tally)
     if 0 < t.refused {
         text(b"A refusal changes nothing: the estimate was ");
         plain(t.before);
-        text(b" before it and is ");
+        text(b" before the last one and is ");
         plain(t.after);
         text(b" after it.\n");
     }

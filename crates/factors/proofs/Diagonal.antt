@@ -1,57 +1,56 @@
--- The diagonal of the factor: each entry is the root of its pivot, which is a value of the format, and the root of a value above zero is above zero.
--- A later column leaves the diagonal alone; a pivot is an entry of the matrix or a rounded difference; +∞ is its own root, and a finite root is s·2^F with s at least 2^(p−1). Assumes nothing.
-use mathlib.Core.Path.{_≡_, refl, sym, subst, _∙_}
-use mathlib.Core.Bool.{true, false, true≢false}
-use Prim.Native.Nat.{ℕ, zero, suc, _*_, _-_, _^_, _<_}
-use native.Mathlib.Nat.{not-suc-le-zero, lt-of-lt-of-le, mul-pos, mul-one, zero-mul, zero-lt-suc}
+-- The diagonal of the factor: each entry is the root of its pivot, and where every pivot is taken it is finite and above zero, and so is its reciprocal. An entry of the matrix' diagonal that is not finite is not taken.
+-- A later column leaves the diagonal alone; a pivot is an entry of the matrix or a rounded difference. Assumes nothing.
+use mathlib.Core.Path.{_≡_, refl, sym, ap, subst, _∙_}
+use mathlib.Core.Bool.{false}
+use Prim.Native.Nat.{ℕ, zero, suc, _≤_, _<_}
+use native.Mathlib.Nat.{not-suc-le-zero}
 use native.Mathlib.Decide.{ℕ-discrete}
 use native.Mathlib.Omega.{arith}
-use borrow.Author.Tests.{lt-ltb}
-use lib.Dec.{T, ltb→lt, lt→ltb}
-use lib.Pow.{pow-pos}
-use lib.Ieee.{Float, nan, inf, fin, Format, prec, low, up, down, lt, fits}
-use lib.Ieee.Fits.{up-pos, sub-fits}
-use lib.Ieee.Positive.{positive, positive-of-value}
+use borrow.Author.Tests.{le-ltb}
+use lib.Dec.{T}
+use lib.Ieee.{Float, Format, fits}
+use lib.Ieee.Fits.{sub-fits}
+use lib.Ieee.Scale.{finite}
+use lib.Ieee.Positive.{positive}
 use Rattle.numbers.specs.Reciprocal.{recipOf}
 use Rattle.numbers.specs.Root.{sqrtOf}
-use Rattle.numbers.specs.Sums.{plus0}
-use Rattle.numbers.proofs.Exists.{sqrt-rooted, root-units}
+use Rattle.numbers.proofs.Reciprocals.{root-positive, recip-root-positive}
+use Rattle.numbers.proofs.NotFinite.{not-finite-less}
 use Rattle.grids.specs.Grid.{withCell}
 use Rattle.grids.proofs.Grids.{with-same, with-col}
-use Rattle.factors.specs.Decomposition.{lessDot, column, factor, pivotAt}
+use Rattle.factors.specs.Pivots.{pivotTaken}
+use Rattle.factors.specs.Decomposition.{lessDot, column, factor, pivotAt, reached, decomposed}
+use Rattle.factors.proofs.First.{first-all}
+use Rattle.factors.proofs.Taken.{taken-positive, not-finite-refused}
 use Rattle.factors.proofs.Below.{below-off, below-up}
+use Rattle.factors.proofs.Sweep.{left-accepted}
 
--- ---- roots above zero
-
--- a value that is finite and above zero is above +0
-positive-above : (x : Float) → T (positive x) → lt plus0 x ≡ true
-unfolding lt
-positive-above nan p = absurd p
-positive-above (inf s) p = absurd p
-positive-above (fin true m e) p = absurd p
-positive-above (fin false m e) p = rw (zero-mul (down e), mul-one) (lt-ltb 0 (m * up e) (mul-pos (ltb→lt 0 m p) (up-pos e)))
-
--- the root of a value above zero is above zero
-pub root-above : (f : Format) (x : Float) → T (fits f x) → lt plus0 x ≡ true → lt plus0 (sqrtOf f x) ≡ true
-unfolding lt sqrtOf
-root-above f nan t h = absurd (true≢false (sym h))
-root-above f (inf true) t h = absurd (true≢false (sym h))
-root-above f (inf false) t h = refl
-root-above f (fin true m e) t h = absurd (true≢false (sym h))
-root-above f (fin false zero e) t h = h
-root-above f (fin false (suc m) e) t h =
-    let x = fin false (suc m) e in
-    let r = sqrt-rooted f x (lt→ltb 0 (suc m) (zero-lt-suc m)) t in
-    positive-above (sqrtOf f x)
-    (positive-of-value (sqrtOf f x) (r .s * 2 ^ r .k) (2 ^ low f) (root-units f x r) (mul-pos (lt-of-lt-of-le (pow-pos (prec f - 1)) (r .root .least)) (pow-pos (r .k))))
-
--- ---- pivots fit
+-- ---- pivots
 
 -- each pivot is a value of the format: the first is the first entry, and every other is a difference
 pub pivot-fits : (f : Format) (e : ℕ → ℕ → Float) (i : ℕ) → T (fits f (e 0 0)) → T (fits f (pivotAt f e i))
 unfolding lessDot factor
 pivot-fits f e zero t = t
 pivot-fits f e (suc i) t = sub-fits f _ _
+
+-- the columns before i leave the entry (i, i)
+kept-until : (f : Format) (e : ℕ → ℕ → Float) (m i : ℕ) → m ≤ i → factor f e m i i ≡ e i i
+unfolding factor
+kept-until f e zero i h = refl
+kept-until f e (suc m) i h =
+    below-off f (withCell (factor f e m) m m _) m _ i i (λ q. omega arith) ∙ with-col (factor f e m) m m _ i i (λ q. omega arith) ∙ kept-until f e m i (omega arith)
+
+-- what is not finite stays so, however many products are taken off
+less-not-finite : (f : Format) (s : Float) (x y : ℕ → Float) (n : ℕ) → finite s ≡ false → finite (lessDot f s x y n) ≡ false
+unfolding lessDot
+less-not-finite f s x y zero h = h
+less-not-finite f s x y (suc n) h = not-finite-less f (lessDot f s x y n) _ (less-not-finite f s x y n h)
+
+-- so the pivot of an entry that is not finite is not finite, and is not taken
+pub pivot-refused : (f : Format) (e : ℕ → ℕ → Float) (i : ℕ) → finite (e i i) ≡ false → pivotTaken (pivotAt f e i) ≡ false
+pivot-refused f e i h =
+    let F = factor f e i in
+    not-finite-refused (pivotAt f e i) (less-not-finite f (F i i) (F i) (F i) i (subst (λ (s : Float). finite s ≡ false) (sym (kept-until f e i i (omega arith))) h))
 
 -- ---- the diagonal
 
@@ -67,3 +66,16 @@ root-kept f e (suc m) i h =
           subst (λ (x : ℕ). column f F m v x x ≡ sqrtOf f (pivotAt f e x)) (sym q) (below-up f (withCell F m m v) m (recipOf f v) m m (omega arith) ∙ with-same F m m v)
       | no q ↦ below-off f (withCell (factor f e m) m m _) m _ i i q ∙ with-col (factor f e m) m m _ i i q ∙ root-kept f e m i (omega arith)
     ]
+
+-- every pivot taken, the entry (i, i) of what is left is that root ..
+pub diagonal-is : (f : Format) (n : ℕ) (e : ℕ → ℕ → Float) → n ≤ reached f n e → (i : ℕ) → i < n → decomposed f n e i i ≡ sqrtOf f (pivotAt f e i)
+diagonal-is f n e all i h = ap (λ (d : ℕ → ℕ → Float). d i i) (left-accepted f n e all) ∙ simp (le-ltb i i (omega arith)) (root-kept f e n i h)
+
+-- .. finite and above zero, and so is its reciprocal
+pub diagonal-both :
+    (f : Format) (n : ℕ) (e : ℕ → ℕ → Float) → n ≤ reached f n e → T (fits f (e 0 0)) → (i : ℕ) → i < n
+    → T (positive (decomposed f n e i i)) × T (positive (recipOf f (decomposed f n e i i)))
+diagonal-both f n e all fit i h =
+    let s = pivotAt f e i in
+    let p = taken-positive s (first-all (λ k. pivotTaken (pivotAt f e k)) n all i h) in
+    rw (diagonal-is f n e all i h) (root-positive f s p (pivot-fits f e i fit), recip-root-positive f s p (pivot-fits f e i fit))

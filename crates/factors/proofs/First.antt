@@ -20,6 +20,17 @@ unfolding firstNot
 first-none p zero a = refl
 first-none p (suc n) a = rw (a zero (omega arith)) (ap suc (first-none (λ k. p (suc k)) n (λ k kh. a (suc k) (omega arith))))
 
+-- the first is not behind one that fails
+pub first-before : (p : ℕ → Bool) (n i : ℕ) → i < n → p i ≡ false → firstNot p n ≤ i
+unfolding firstNot
+first-before p zero i h b = absurd (not-suc-le-zero h)
+first-before p (suc n) zero h b = rw b (omega arith)
+first-before p (suc n) (suc i) h b = step (p zero) (first-before (λ k. p (suc k)) n i (le-of-suc-le-suc h) b)
+  where
+    step : (t : Bool) → firstNot (λ k. p (suc k)) n ≤ i → cond t (suc (firstNot (λ k. p (suc k)) n)) zero ≤ suc i
+    step true l = omega arith
+    step false l = omega arith
+
 -- ---- the other way round: what the first index says
 
 -- m fails and none before it does

@@ -1,6 +1,6 @@
--- What the inverse promises further, of any call that keeps its promise `Inverted`: it equals its transpose, only the lower triangle of L matters, one outcome.
+-- What the inverse promises further, of any call that keeps its promise `Inverted`: no pivot is asked, it equals its transpose, only the lower triangle of L matters, one outcome.
 -- The buffer is read cell by cell. Assumes nothing.
-use mathlib.Core.Path.{_≡_, sym, ap, _∙_}
+use mathlib.Core.Path.{_≡_, refl, sym, ap, _∙_}
 use mathlib.Core.List.{List}
 use Prim.Native.Nat.{ℕ, _<_}
 use lib.ListN.{length}
@@ -14,6 +14,12 @@ use Rattle.factors.specs.Inverse.{SameLower, inverse}
 use Rattle.factors.specs.Inverted.{Inverted}
 use Rattle.factors.proofs.InverseCalls.{squares-fit}
 use Rattle.factors.proofs.OnlyLower.{inverse-sym, inverse-lower}
+
+-- The inverse asks for no pivot: its answer goes by the size and the two lengths, whatever L holds, be it an infinity, a NaN or a zero on its diagonal.
+pub no-pivot :
+    (f : Format) (n : ℕ) (l m b d : List Float) (v w : Answer) (b' d' : List Float) → Inverted f n l b v b' → Inverted f n m d w d'
+    → length l ≡ length m → length b ≡ length d → v ≡ w
+no-pivot f n l m b d v w b' d' p q e h = p .answer ∙ (rw (e, h) refl) ∙ sym (q .answer)
 
 -- what a call leaves, cell by cell
 left : (f : Format) (n : ℕ) (l b : List Float) (v : Answer) (b' : List Float) → Inverted f n l b v b' → v ≡ Done → (r c : ℕ) → r < n → c < n → cell n b' r c ≡ inverse f n (cell n l) (cell n b) r c

@@ -2,6 +2,7 @@
 pub mod Below
 pub mod Triangle
 pub mod First
+pub mod Taken
 pub mod Sweep
 pub mod Calls
 pub mod OnlyUpper

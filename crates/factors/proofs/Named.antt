@@ -13,7 +13,7 @@ use Rattle.answers.specs.Answers.{isDone, firstOf}
 use Rattle.factors.specs.Pivots.{pivotTaken}
 use Rattle.factors.specs.Decomposition.{pivotAt, reached, FirstRefused}
 use Rattle.factors.specs.Decomposed.{pivotAnswer}
-use Rattle.factors.proofs.First.{first-is, first-none, first-found, first-all}
+use Rattle.factors.proofs.First.{first-is, first-before, first-none, first-found, first-all}
 
 -- refusal 4 carries the index, and it is below n
 named : (m n i : ℕ) (b : Bool) → ltb m n ≡ b → cond b (Pivot m) Done ≡ Pivot i → (m ≡ i) × (i < n)
@@ -44,6 +44,13 @@ module _ (f : Format) (n : ℕ) (e : ℕ → ℕ → Float) (v : Answer) (answer
       let z = named _ _ i _ refl (sym answered ∙ q) in
       let w = first-found (λ k. pivotTaken (pivotAt f e k)) n i (z .1) (z .0) in
       record { within = z .1; before = w .0; here = w .1 }
+
+  -- 4 with an index that is not behind one whose pivot is not taken
+  pub named-before : (i : ℕ) → i < n → pivotTaken (pivotAt f e i) ≡ false → (k : ℕ) × (k ≤ i) × (v ≡ Pivot k)
+  named-before i h b =
+      let k = reached f n e in
+      let l : k ≤ i = first-before (λ j. pivotTaken (pivotAt f e j)) n i h b in
+      (k, l, answered ∙ rw (lt-ltb k n (omega arith)))
 
   -- done where every pivot is taken ..
   pub done-where-taken : ((k : ℕ) → k < n → pivotTaken (pivotAt f e k) ≡ true) → v ≡ Done

@@ -1,32 +1,32 @@
 -- What the decomposition promises further, of any call that keeps its promise `Decomposed`: refusals 1 to 3 keep the buffer, refusal 4 exactly, only the upper triangle matters, the factor's diagonal, one outcome.
 -- The answer says which pivots are taken, by the laws of the first index that fails; the buffer is read cell by cell. Assumes nothing.
 use mathlib.Core.Path.{_≡_, sym, ap, _∙_}
-use mathlib.Core.Bool.{true}
+use mathlib.Core.Bool.{true, false}
 use mathlib.Core.List.{List}
 use mathlib.Core.Logic.{_⊎_}
 use Prim.Native.Nat.{ℕ, _<_, _≤_}
 use native.Mathlib.Omega.{arith}
-use borrow.Author.Tests.{le-ltb}
 use lib.Dec.{T}
 use lib.ListN.{length}
-use lib.Ieee.{Float, Format, lt, fits}
+use lib.Ieee.{Float, Format, fits}
+use lib.Ieee.Scale.{finite}
+use lib.Ieee.Positive.{positive}
 use Rattle.answers.specs.declared.Answer.{Answer}
 use Rattle.answers.specs.declared.Answer.the-variants.{Done, Pivot}
 use Rattle.answers.specs.Answers.{numberOf, isDone}
+use Rattle.numbers.specs.Reciprocal.{recipOf}
 use Rattle.numbers.specs.Root.{sqrtOf}
-use Rattle.numbers.specs.Sums.{plus0}
 use Rattle.grids.specs.Cells.{squareAnswer}
 use Rattle.grids.specs.Grid.{grid, cell}
 use Rattle.grids.proofs.Grids.{grid-cell}
 use Rattle.factors.specs.Pivots.{pivotTaken}
 use Rattle.factors.specs.Decomposition.{pivotAt, reached, decomposed, FirstRefused, SameUpper}
 use Rattle.factors.specs.Decomposed.{pivotAnswer, Decomposed}
-use Rattle.factors.proofs.Sweep.{left-accepted}
 use Rattle.factors.proofs.First.{first-is}
-use Rattle.factors.proofs.Named.{first-done, names-first, named-first, done-where-taken, done-reached, taken-where-done}
+use Rattle.factors.proofs.Named.{first-done, names-first, named-first, named-before, done-where-taken, done-reached, taken-where-done}
 use Rattle.factors.proofs.Calls.{refused-at-gate, square-fits}
 use Rattle.factors.proofs.OnlyUpper.{reached-upper, decomposed-upper, refused-upper}
-use Rattle.factors.proofs.Diagonal.{root-above, pivot-fits, root-kept}
+use Rattle.factors.proofs.Diagonal.{pivot-refused, diagonal-is, diagonal-both}
 
 -- ---- a call on a matrix that is not refused with 1 or 2
 
@@ -44,7 +44,7 @@ module _ (f : Format) (n : ℕ) (t : List Float) (v : Answer) (t' : List Float) 
   left-at r c hr hc =
       ap (λ (l : List Float). cell n l r c) renewed ∙ grid-cell n n (decomposed f n (cell n t)) t r c hr hc (square-fits n (length t) fit)
 
-  -- It answers 4 with i where i is the index of the first pivot that is not above zero ..
+  -- It answers 4 with i where i is the index of the first pivot that is not above zero or not finite ..
   pub says-4 : (i : ℕ) → FirstRefused f n (cell n t) i → v ≡ Pivot i
   says-4 = names-first f n (cell n t) v answered
 
@@ -52,9 +52,13 @@ module _ (f : Format) (n : ℕ) (t : List Float) (v : Answer) (t' : List Float) 
   pub only-4 : (i : ℕ) → v ≡ Pivot i → FirstRefused f n (cell n t) i
   only-4 = named-first f n (cell n t) v answered
 
-  -- It is done where every pivot is above zero ..
+  -- It is done where every pivot is above zero and finite ..
   pub says-done : ((k : ℕ) → k < n → pivotTaken (pivotAt f (cell n t) k) ≡ true) → v ≡ Done
   says-done = done-where-taken f n (cell n t) v answered
+
+  -- A diagonal entry of the matrix that is NaN or infinite is refused, at its index or before it.
+  pub not-finite-says-4 : (i : ℕ) → i < n → finite (cell n t i i) ≡ false → (k : ℕ) × (k ≤ i) × (v ≡ Pivot k)
+  not-finite-says-4 i h b = named-before f n (cell n t) v answered i h (pivot-refused f (cell n t) i b)
 
   -- where it is done no pivot stopped it
   reached-all : v ≡ Done → n ≤ reached f n (cell n t)
@@ -71,22 +75,25 @@ module _ (f : Format) (n : ℕ) (t : List Float) (v : Answer) (t' : List Float) 
   pub done-fits : isDone (squareAnswer n (length t)) ≡ true
   done-fits = first-done (squareAnswer n (length t)) (pivotAnswer (reached f n (cell n t)) n) (sym (call .answer) ∙ done)
 
-  -- .. and only there: every pivot is above zero.
+  -- .. and only there: every pivot is above zero and finite.
   pub only-done : (k : ℕ) → k < n → pivotTaken (pivotAt f (cell n t) k) ≡ true
   only-done = taken-where-done f n (cell n t) v (answered f n t v t' call done-fits) done
 
+  -- the cell on the diagonal, and what was reached
+  diagonal-at : (i : ℕ) → i < n → cell n t' i i ≡ decomposed f n (cell n t) i i
+  diagonal-at i h = left-at f n t v t' call done-fits i i h h
+
+  all-taken : n ≤ reached f n (cell n t)
+  all-taken = reached-all f n t v t' call done-fits done
+
   -- Each entry on the diagonal of the factor is the root of its pivot ..
   pub diagonal-root : (i : ℕ) → i < n → cell n t' i i ≡ sqrtOf f (pivotAt f (cell n t) i)
-  diagonal-root i h =
-      left-at f n t v t' call done-fits i i h h
-      ∙ ap (λ (d : ℕ → ℕ → Float). d i i) (left-accepted f n (cell n t) (reached-all f n t v t' call done-fits done))
-      ∙ simp (le-ltb i i (omega arith)) (root-kept f (cell n t) n i h)
+  diagonal-root i h = diagonal-at i h ∙ diagonal-is f n (cell n t) all-taken i h
 
-  -- .. and is above zero, where the numbers of the matrix are values of the format, as those of a lent buffer are.
-  pub diagonal-above : ((r c : ℕ) → r < n → c < n → T (fits f (cell n t r c))) → (i : ℕ) → i < n → lt plus0 (cell n t' i i) ≡ true
-  unfolding pivotTaken
-  diagonal-above held i h =
-      rw (diagonal-root i h) (root-above f (pivotAt f (cell n t) i) (pivot-fits f (cell n t) i (held 0 0 (omega arith) (omega arith))) (only-done i h))
+  -- .. and is finite and above zero, and so is its reciprocal, where the numbers of the matrix are values of the format, as those of a lent buffer are.
+  pub diagonal-positive :
+      ((r c : ℕ) → r < n → c < n → T (fits f (cell n t r c))) → (i : ℕ) → i < n → T (positive (cell n t' i i)) × T (positive (recipOf f (cell n t' i i)))
+  diagonal-positive held i h = rw (diagonal-at i h) (diagonal-both f n (cell n t) all-taken (held 0 0 (omega arith) (omega arith)) i h)
 
 -- ---- two calls
 

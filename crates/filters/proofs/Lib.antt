@@ -1,4 +1,4 @@
--- Laws of them, over the format: of the steps one after the other, of calls that are not refused, of what a call leaves; and what the promises say further (Theorems, Refused, Exactly, OnlyUpperR).
+-- Laws of them, over the format: of the steps one after the other, of calls that are not refused, of what a call leaves; and what the promises say further (Theorems, Refused, Exactly, Finite, OnlyUpperR).
 pub mod Writes
 pub mod PredictionFits
 pub mod PredictionUnique
@@ -8,4 +8,5 @@ pub mod Calls
 pub mod Theorems
 pub mod Refused
 pub mod Exactly
+pub mod Finite
 pub mod OnlyUpperR

@@ -42,6 +42,8 @@ pub enum Job {
     Predict,
     Update,
     Correct,
+    OneStatePredict,
+    OneStateCorrect,
     // A name that is none of these.
     Unknown,
 }

@@ -70,6 +70,8 @@ fn job_at(place: usize) -> Job {
         32 => Job::Predict,
         33 => Job::Update,
         34 => Job::Correct,
+        35 => Job::OneStatePredict,
+        36 => Job::OneStateCorrect,
         _ => Job::Unknown,
     }
 }
@@ -112,7 +114,9 @@ predict_x
 predict_p
 predict
 update_with_innovation
-correct",
+correct
+one_state_predict
+one_state_correct",
     );
     job_at(place)
 }

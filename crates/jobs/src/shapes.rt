@@ -65,6 +65,8 @@ pub fn shape_of(j: Job) -> Shape {
         Job::Predict => plain(1, 0, 6),
         Job::Update => plain(2, 0, 11),
         Job::Correct => plain(2, 0, 12),
+        Job::OneStatePredict => plain(0, 0, 1),
+        Job::OneStateCorrect => plain(0, 1, 1),
         Job::Unknown => plain(0, 0, 0),
     }
 }

@@ -3,6 +3,9 @@ pub mod Floor
 pub mod Unique
 pub mod Exists
 pub mod Nearest
+pub mod Reciprocals
+pub mod Largest
+pub mod NotFinite
 pub mod Same
 pub mod Exact
 pub mod Sums

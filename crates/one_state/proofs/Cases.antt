@@ -4,10 +4,13 @@ use mathlib.Core.Bool.{Bool, true, false, cond}
 use Prim.Native.Nat.{ℕ}
 use native.Mathlib.Omega.{arith}
 use lib.Ieee.{Float, Format, binary32}
+use lib.Ieee.Scale.{finite}
 use Rattle.numbers.specs.Reciprocal.{recipOf}
 use Rattle.numbers.specs.Root.{sqrtOf}
+use Rattle.numbers.proofs.NotFinite.{plus-not-finite}
 use Rattle.pivots.specs.declared.Pivot.the-variants as pivot
 use Rattle.factors.specs.Pivots.{pivotTaken}
+use Rattle.factors.proofs.Taken.{not-finite-refused}
 use Rattle.pivots.specs.Pivots.{pivotOf}
 use Rattle.one_state.specs.declared.OneState.{OneState}
 use Rattle.one_state.specs.declared.Corrected.the-variants.{Accepted, Refused}
@@ -43,3 +46,7 @@ module _ (s : OneState) (z : Float) where
   pub refused : pivotTaken (spread binary32 (s .h) (s .p) (s .r)) ≡ false → corrected s z ≡ Refused s 0
   unfolding corrected
   refused e = rw e
+
+  -- An r that is NaN or infinite is refused, and the record stays.
+  pub not-finite-r : finite (s .r) ≡ false → corrected s z ≡ Refused s 0
+  not-finite-r e = refused (not-finite-refused _ (plus-not-finite binary32 _ (s .r) e))

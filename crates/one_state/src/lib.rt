@@ -38,7 +38,7 @@ impl OneState {
     }
 
     // The record with x and p as the reading z moves them; or the record unchanged, where the
-    // reading's spread S is not above zero.
+    // reading's spread S is not above zero, or not finite, NaN included.
     pub fn correct(self, z: f32) -> Corrected
         ensures { λ r. ⌜ r ≡ corrected self z ⌝ }
     {

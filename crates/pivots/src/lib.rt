@@ -9,12 +9,12 @@ pub enum Pivot {
     Refused(f32),
 }
 
-// The root of the computed sum and the root's reciprocal, where the sum is above zero; else the sum,
-// refused. So a NaN is refused, and +∞ is accepted, with the reciprocal +0.
+// The root of the computed sum and the root's reciprocal, where the sum is above zero and finite: at
+// most the largest number that there is. Else the sum, refused. So a NaN is refused, and +∞ too.
 pub fn pivot_of(sum: f32) -> Pivot
     ensures { λ r. ⌜ r ≡ pivotOf binary32 sum ⌝ }
 {
-    if sum > 0.0 {
+    if sum > 0.0 && sum <= 3.4028235e38 {
         let r = data_type::square_root(sum);
         Pivot::Accepted(r, data_type::recip(r))
     } else {

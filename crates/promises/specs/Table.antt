@@ -85,11 +85,15 @@ table =
     && inverts 2 (0x40000000 ∷ 0x00000000 ∷ 0x3f800000 ∷ 0x40000000 ∷ []) (0x7fc00000 ∷ 0x7fc00000 ∷ 0x7fc00000 ∷ 0x7fc00000 ∷ []) (0x3ea00000 ∷ 0xbe000000 ∷ 0xbe000000 ∷ 0x3e800000 ∷ [])
     -- refused at pivot 1
     && leaves 2 (0x3f800000 ∷ 0x40000000 ∷ 0x40000000 ∷ 0x3f800000 ∷ []) 1 (0x3f800000 ∷ 0x40000000 ∷ 0x40000000 ∷ 0xc0400000 ∷ [])
-    -- refused at pivot 0: below zero, and NaN
+    -- refused at pivot 0: below zero, NaN, and +∞, which leaves +∞·(+0)
     && leaves 1 (0xc0a00000 ∷ []) 0 (0x80000000 ∷ [])
     && leaves 1 (0x7fc00000 ∷ []) 0 (0x7fc00000 ∷ [])
-    -- +∞ is taken; its inverse is +0
-    && leaves 1 (0x7f800000 ∷ []) 1 (0x7f800000 ∷ [])
+    && leaves 1 (0x7f800000 ∷ []) 0 (0x7fc00000 ∷ [])
+    -- the largest number is taken
+    && leaves 1 (0x7f7fffff ∷ []) 1 (0x5f7fffff ∷ [])
+    -- refused at pivot 1 for +∞, which stays
+    && leaves 2 (0x40800000 ∷ 0x40000000 ∷ 0x40000000 ∷ 0x7f800000 ∷ []) 1 (0x40000000 ∷ 0x40000000 ∷ 0x3f800000 ∷ 0x7f800000 ∷ [])
+    -- the inverse asks for no pivot: from L = [+∞] it is +0
     && inverts 1 (0x7f800000 ∷ []) (0x7fc00000 ∷ []) (0x00000000 ∷ [])
     -- a correction, S, K, x and P: by the general filter
     && has (residualOf binary32 1 (only 0x3f800000) (only 0x40400000) (only 0x3f800000) 0 0) 0x40800000

@@ -1,15 +1,15 @@
 -- What the wire brings in each step of the shift. Definitions only.
 use mathlib.Core.Path.{_≡_}
-use mathlib.Core.Bool.{cond}
+use mathlib.Core.Bool.{false, cond}
 use Prim.Native.Nat.{ℕ}
 use lib.Dec.{eqb}
-use lib.Ieee.{Float, nan, binary32, ofBits}
+use lib.Ieee.{Float, nan, inf, binary32, ofBits}
 use Rattle.shift.specs.declared.readings.Reading.{Reading}
 use Rattle.shift.specs.declared.readings.Reading.the-variants.{Arrived, Lost}
 
--- the noise R in step n, counted from 0: 4, and in step 11 not a number
+-- the noise R in step n, counted from 0: 4, in step 11 not a number, and in step 15 +∞
 abbrev pub noiseIn : ℕ → Float
-noiseIn n = cond (eqb n 11) nan (ofBits binary32 0x40800000)
+noiseIn n = cond (eqb n 11) nan (cond (eqb n 15) (inf false) (ofBits binary32 0x40800000))
 
 -- nothing arrives in step 6, and in each other step a reading with its noise
 abbrev pub Brings : ℕ → Reading → Type 0

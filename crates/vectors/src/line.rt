@@ -30,6 +30,8 @@ fn called(s: &[u8], at: usize, j: Job) -> Seen {
         Job::Predict => replay_prediction::compare(s, at, h),
         Job::Correct => replay_correction::compare(s, at, h, true),
         Job::Update => replay_correction::compare(s, at, h, false),
+        Job::OneStatePredict => replay_yarn::predict(s, at, h),
+        Job::OneStateCorrect => replay_yarn::correct(s, at, h),
         Job::Unknown => seen::nothing(lines::LOST),
         _ => matrices(s, at, j, h),
     }

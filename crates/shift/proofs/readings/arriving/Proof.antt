@@ -1,17 +1,22 @@
 -- `readings::arriving` meets its contract: each arm is a case of `Brings`.
 -- Assumes nothing.
 use mathlib.Core.Path.{_≡_, refl}
+use mathlib.Core.Bool.{false}
 use native.Mathlib.Omega.{arith}
-use lib.Ieee.{nan, binary32, div, ofBits}
+use lib.Ieee.{nan, inf, binary32, div, ofBits}
 use borrow.Author.Needs.{needs}
 use borrow.Author.Tests.{eq-eqb, ne-eqb}
 use Rattle.shift.proofs.readings.arriving.Statement.{statement}
 use Rattle.shift.proofs.readings.arriving.Tie as tie
 
--- the code's 0.0 / 0.0
+-- the code's 0.0 / 0.0 and 1.0 / 0.0
 quotient : div binary32 (ofBits binary32 0) (ofBits binary32 0) ≡ nan
 unfolding div ofBits
 quotient = refl
+
+infinite : div binary32 (ofBits binary32 0x3f800000) (ofBits binary32 0) ≡ inf false
+unfolding div ofBits
+infinite = refl
 
 mul-t4 : tie.Need-mul-t4
 mul-t4 c = search needs
@@ -25,6 +30,12 @@ mul-t10 c = search needs
 array-read-t13 : tie.Need-array-read-t13
 array-read-t13 c = search needs
 
+mul-t16 : tie.Need-mul-t16
+mul-t16 c = search needs
+
+array-read-t19 : tie.Need-array-read-t19
+array-read-t19 c = search needs
+
 returns : tie.Need-returns
 returns c = search needs
 
@@ -32,8 +43,28 @@ returns-2 : tie.Need-returns-2
 returns-2 c = (λ h. omega (arith, c .match .keys2), rw (eq-eqb (c .before .args .step) 11 (c .match .keys2)) quotient)
 
 returns-3 : tie.Need-returns-3
-returns-3 c = (c .match .rest .0 .1, rw (ne-eqb (c .before .args .step) 11 (c .match .rest .1)))
+returns-3 c =
+    let n = c .before .args .step in
+    let at : n ≡ 15 = c .match .keys3 in
+    (λ h. omega arith, rw (ne-eqb n 11 (λ h. omega arith), eq-eqb n 15 at) infinite)
+
+returns-4 : tie.Need-returns-4
+returns-4 c =
+    let n = c .before .args .step in
+    let others = c .match .rest in
+    (others .0 .0 .1, rw (ne-eqb n 11 (others .0 .1), ne-eqb n 15 (others .1)))
 
 pub arriving-spec : {M : Type 1} → statement M
 arriving-spec =
-    tie.close (tie.spec mul-t4 array-read-t7 mul-t10 array-read-t13 returns returns-2 returns-3)
+    tie.close
+    (tie.spec
+    mul-t4
+    array-read-t7
+    mul-t10
+    array-read-t13
+    mul-t16
+    array-read-t19
+    returns
+    returns-2
+    returns-3
+    returns-4)
