@@ -33,12 +33,15 @@ unfolding lessDot factor
 pivot-fits f e zero t = t
 pivot-fits f e (suc i) t = sub-fits f _ _
 
--- the columns before i leave the entry (i, i)
+-- another column than i leaves the entry (i, i) ..
+column-off : (f : Format) (e : ℕ → ℕ → Float) (m : ℕ) (v : Float) (i : ℕ) → (i ≡ m → ⊥) → column f e m v i i ≡ e i i
+column-off f e m v i q = below-off f (withCell e m m v) m (recipOf f v) i i q ∙ with-col e m m v i i q
+
+-- .. so those before i do
 kept-until : (f : Format) (e : ℕ → ℕ → Float) (m i : ℕ) → m ≤ i → factor f e m i i ≡ e i i
 unfolding factor
 kept-until f e zero i h = refl
-kept-until f e (suc m) i h =
-    below-off f (withCell (factor f e m) m m _) m _ i i (λ q. omega arith) ∙ with-col (factor f e m) m m _ i i (λ q. omega arith) ∙ kept-until f e m i (omega arith)
+kept-until f e (suc m) i h = column-off f (factor f e m) m _ i (λ q. omega arith) ∙ kept-until f e m i (omega arith)
 
 -- what is not finite stays so, however many products are taken off
 less-not-finite : (f : Format) (s : Float) (x y : ℕ → Float) (n : ℕ) → finite s ≡ false → finite (lessDot f s x y n) ≡ false
@@ -64,7 +67,7 @@ root-kept f e (suc m) i h =
           let F = factor f e m in
           let v = sqrtOf f (pivotAt f e m) in
           subst (λ (x : ℕ). column f F m v x x ≡ sqrtOf f (pivotAt f e x)) (sym q) (below-up f (withCell F m m v) m (recipOf f v) m m (omega arith) ∙ with-same F m m v)
-      | no q ↦ below-off f (withCell (factor f e m) m m _) m _ i i q ∙ with-col (factor f e m) m m _ i i q ∙ root-kept f e m i (omega arith)
+      | no q ↦ column-off f (factor f e m) m _ i q ∙ root-kept f e m i (omega arith)
     ]
 
 -- every pivot taken, the entry (i, i) of what is left is that root ..

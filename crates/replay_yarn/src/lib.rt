@@ -1,58 +1,87 @@
-// A line of the one-state filter: the record of one yarn in a buffer of six numbers, and for a
+// A line of the one-state filter: the record of one yarn, six numbers behind their count, and for a
 // correction the reading.
+ghost use mathlib.Core.Path.{_≡_};
+ghost use Rattle.replay_yarn.specs.Yarn.{sixAt, lentAt, yarnMet, predictMet, correctMet};
 use answers::Answer;
 use lists::Seen;
 use lists::Shape;
 use lists::head_at;
-use lists::lend;
 use lists::seen;
 use one_state::Corrected;
 use one_state::OneState;
 
-// The record of the first six cells.
-fn record_of(cells: &[f32; 304]) -> OneState {
-    OneState {
-        x: cells[0],
-        p: cells[1],
-        a: cells[2],
-        q: cells[3],
-        h: cells[4],
-        r: cells[5],
+// A record as a line has it, and the position behind it.
+struct Lent {
+    yarn: OneState,
+    next: usize,
+}
+
+// The position behind a count of six. Behind any other the line is lost.
+fn six_at(s: &[u8], at: usize) -> usize
+    ensures { λ r. ⌜ r ≡ sixAt (now (s .entry)) at ⌝ }
+{
+    let count = lines::word_at(s, at);
+    if count.bits == 6 {
+        count.next
+    } else {
+        lines::LOST
+    }
+}
+
+// The record at a position.
+fn lend(s: &[u8], at: usize) -> Lent
+    ensures { λ r. ⌜ r ≡ lentAt (now (s .entry)) at ⌝ }
+{
+    let x = lines::word_at(s, six_at(s, at));
+    let p = lines::word_at(s, x.next);
+    let a = lines::word_at(s, p.next);
+    let q = lines::word_at(s, a.next);
+    let h = lines::word_at(s, q.next);
+    let r = lines::word_at(s, h.next);
+    Lent {
+        yarn: OneState {
+            x: lines::float_of(x.bits),
+            p: lines::float_of(p.bits),
+            a: lines::float_of(a.bits),
+            q: lines::float_of(q.bits),
+            h: lines::float_of(h.bits),
+            r: lines::float_of(r.bits),
+        },
+        next: r.next,
     }
 }
 
 // The answer and the record that came back against the words at a position.
-fn met(s: &[u8], at: usize, v: Answer, yarn: OneState) -> Seen {
-    let mut cells = [0.0f32; 304];
-    cells[0] = yarn.x;
-    cells[1] = yarn.p;
-    cells[2] = yarn.a;
-    cells[3] = yarn.q;
-    cells[4] = yarn.h;
-    cells[5] = yarn.r;
-    let o = seen::answer_met(s, at, v);
-    seen::buffer_met(s, o, 0, &cells, 6, true)
+fn met(s: &[u8], at: usize, v: Answer, yarn: OneState) -> Seen
+    ensures { λ r. ⌜ r ≡ yarnMet (now (s .entry)) at v yarn ⌝ }
+{
+    let mut o = seen::answer_met(s, at, v);
+    o.next = six_at(s, o.next);
+    let x = seen::float_met(s, o, 0, 0, yarn.x);
+    let p = seen::float_met(s, x, 0, 1, yarn.p);
+    let a = seen::float_met(s, p, 0, 2, yarn.a);
+    let q = seen::float_met(s, a, 0, 3, yarn.q);
+    let h = seen::float_met(s, q, 0, 4, yarn.h);
+    seen::float_met(s, h, 0, 5, yarn.r)
 }
 
-// The prediction of a line, compared. A buffer of another length is no record: the line is lost.
-pub fn predict(s: &[u8], at: usize, h: Shape) -> Seen {
+// The prediction of a line, compared.
+pub fn predict(s: &[u8], at: usize, h: Shape) -> Seen
+    ensures { λ r. ⌜ r ≡ predictMet (now (s .entry)) at h ⌝ }
+{
     let head = head_at(s, at, h);
-    let lent = lend(s, head.next, true);
-    if lent.len != 6 {
-        return seen::nothing(lines::LOST);
-    }
-    let yarn = record_of(&lent.cells);
+    let lent = lend(s, head.next);
+    let yarn = lent.yarn;
     met(s, lent.next, Answer::Done, yarn.predict())
 }
 
 // The correction of a line, compared.
-pub fn correct(s: &[u8], at: usize, h: Shape) -> Seen {
+pub fn correct(s: &[u8], at: usize, h: Shape) -> Seen
+    ensures { λ r. ⌜ r ≡ correctMet (now (s .entry)) at h ⌝ }
+{
     let head = head_at(s, at, h);
-    let lent = lend(s, head.next, true);
-    if lent.len != 6 {
-        return seen::nothing(lines::LOST);
-    }
-    let yarn = record_of(&lent.cells);
+    let lent = lend(s, head.next);
+    let yarn = lent.yarn;
     match yarn.correct(head.u) {
         Corrected::Accepted(next) => met(s, lent.next, Answer::Done, next),
         Corrected::Refused(same, i) => met(s, lent.next, Answer::Pivot(i), same),
