@@ -29,17 +29,28 @@
    The answer is one number: 0 where the call did its work, else 100 times the refusal's number plus
    what it carries. yurgamysh_answer_of and yurgamysh_carried_by take it apart.
 
-     code      refusal           given exactly when                                   leaves
-     0         YURGAMYSH_DONE    none of the others is                                the results
-     100 + k   YURGAMYSH_SIZE    size k is 0 or above 16, the first such              all as lent
-     200 + k   YURGAMYSH_SHORT   buffer k is shorter than its matrix, the first such  all as lent
-     300 + k   YURGAMYSH_RANGE   the row (k = 0) or the column (k = 1) is not below   all as lent
-                                 its size, the row first
-     400 + i   YURGAMYSH_PIVOT   pivot i is not above zero, or not finite, NaN        see the function
-                                 included, the first such
+     code      refusal               given exactly when                              leaves
+     0         YURGAMYSH_DONE        none of the others is                           the results
+     100 + k   YURGAMYSH_SIZE        size k is 0 or above 16, the first such         all as lent
+     200 + k   YURGAMYSH_SHORT       buffer k is shorter than its matrix, the first  all as lent
+                                     such
+     300 + k   YURGAMYSH_RANGE       the row (k = 0) or the column (k = 1) is not    all as lent
+                                     below its size, the row first
+     400 + i   YURGAMYSH_PIVOT       pivot i is not above zero, or not finite, NaN   see the function
+                                     included, the first such
+     900       YURGAMYSH_NOT_FINITE  some entry of the new x or P is not finite, an  x and P as lent,
+                                     infinity or a NaN                               the rest as done
 
    They are tested in this order. Sizes and buffers count from 0 in the order of the parameters. Which
-   NaN a NaN is (its sign and payload) is not decided. */
+   NaN a NaN is (its sign and payload) is not decided.
+
+   Only corrections are tested for what is not finite: yurgamysh_correct, yurgamysh_update and
+   yurgamysh_one_state_correct. One that is done leaves the n numbers of x and the n*n of P finite;
+   what lies past them does not count. Predictions are not tested: one whose numbers overflow is done,
+   with infinities or NaN in x or P. After that every correction is refused, with YURGAMYSH_PIVOT or
+   YURGAMYSH_NOT_FINITE, since what is not finite stays not finite when something is added to it or
+   taken from it; nor does a later prediction mend it. So a filter that is spoilt can't look well
+   again: set x and P anew then. */
 #ifndef YURGAMYSH_H
 #define YURGAMYSH_H
 
@@ -62,7 +73,8 @@ enum yurgamysh_answer {
     YURGAMYSH_SIZE = 1,
     YURGAMYSH_SHORT = 2,
     YURGAMYSH_RANGE = 3,
-    YURGAMYSH_PIVOT = 4
+    YURGAMYSH_PIVOT = 4,
+    YURGAMYSH_NOT_FINITE = 9
 };
 
 /* Which answer a code is. */
@@ -72,11 +84,13 @@ static inline enum yurgamysh_answer yurgamysh_answer_of(size_t code) {
     case 1: return YURGAMYSH_SIZE;
     case 2: return YURGAMYSH_SHORT;
     case 3: return YURGAMYSH_RANGE;
-    default: return YURGAMYSH_PIVOT;
+    case 4: return YURGAMYSH_PIVOT;
+    default: return YURGAMYSH_NOT_FINITE;
     }
 }
 
-/* Which size, which buffer, the row (0) or the column (1), or which pivot it is; 0 for done. */
+/* Which size, which buffer, the row (0) or the column (1), or which pivot it is; 0 for done and for
+   not finite. */
 static inline size_t yurgamysh_carried_by(size_t code) { return code % 100; }
 
 /* ---- The filter: n states, m observations.
@@ -89,7 +103,8 @@ static inline size_t yurgamysh_carried_by(size_t code) { return code % 100; }
    predicted_x n, temp_P n by n, temp_S_inv m by m, temp_HP m by n, temp_PHt n by m, temp_KHP n by n:
    room to work in; whatever they hold on entry does not matter. */
 
-/* x = A*x, P = A*P*A^T + Q. predicted_x ends as the new x, temp_P as A*P.
+/* x = A*x, P = A*P*A^T + Q. predicted_x ends as the new x, temp_P as A*P. What is not finite is not
+   refused here: after an overflow every correction is, until x and P are set anew.
    Size 0: n. Buffers: 0 x, 1 A, 2 P, 3 Q, 4 predicted_x, 5 temp_P. */
 size_t yurgamysh_predict(size_t n,
                          float *x, size_t x_len,
@@ -122,8 +137,12 @@ size_t yurgamysh_innovation(size_t n, size_t m,
 /* x = x + K*y and P = P - K*H*P, with the gain K = P*H^T*S^-1 of S = H*P*H^T + R.
    S ends as the lower factor of that sum. Refusal YURGAMYSH_PIVOT leaves x, P, K, temp_S_inv,
    temp_PHt and temp_KHP as lent, temp_HP as H*P, and S as yurgamysh_cholesky_decompose_lower leaves
-   it. An infinity or a NaN on the diagonal of R is always refused so. Sizes: 0 n, 1 m. Buffers: 0 x,
-   1 P, 2 H, 3 R, 4 y, 5 S, 6 K, 7 temp_S_inv, 8 temp_HP, 9 temp_PHt, 10 temp_KHP. */
+   it. An infinity or a NaN on the diagonal of R is always refused so.
+   Refusal YURGAMYSH_NOT_FINITE (900), where some entry of the new x or P is an infinity or a NaN,
+   leaves x and P as lent, and S, K, temp_S_inv, temp_HP, temp_PHt and temp_KHP as the accepted call
+   would. An infinity or a NaN in y is always refused so, unless a pivot is refused first.
+   Sizes: 0 n, 1 m. Buffers: 0 x, 1 P, 2 H, 3 R, 4 y, 5 S, 6 K, 7 temp_S_inv, 8 temp_HP, 9 temp_PHt,
+   10 temp_KHP. */
 size_t yurgamysh_update(size_t n, size_t m,
                         float *x, size_t x_len,
                         float *p, size_t p_len,
@@ -137,9 +156,11 @@ size_t yurgamysh_update(size_t n, size_t m,
                         float *temp_pht, size_t temp_pht_len,
                         float *temp_khp, size_t temp_khp_len);
 
-/* The innovation of z, and then the update. Refusal YURGAMYSH_PIVOT leaves y as z - H*x and the rest
-   as the update does: x and P are as lent. Sizes: 0 n, 1 m. Buffers: 0 x, 1 P, 2 H, 3 z, 4 R, 5 y,
-   6 S, 7 K, 8 temp_S_inv, 9 temp_HP, 10 temp_PHt, 11 temp_KHP. */
+/* The innovation of z, and then the update. Refusals YURGAMYSH_PIVOT and YURGAMYSH_NOT_FINITE leave y
+   as z - H*x and the rest as the update does: x and P are as lent. The readings do not enter S, so no
+   pivot tells a bad one: an infinity or a NaN in z is always refused with YURGAMYSH_NOT_FINITE, unless
+   a pivot is refused first. Sizes: 0 n, 1 m. Buffers: 0 x, 1 P, 2 H, 3 z, 4 R, 5 y, 6 S, 7 K,
+   8 temp_S_inv, 9 temp_HP, 10 temp_PHt, 11 temp_KHP. */
 size_t yurgamysh_correct(size_t n, size_t m,
                          float *x, size_t x_len,
                          float *p, size_t p_len,
@@ -157,11 +178,13 @@ size_t yurgamysh_correct(size_t n, size_t m,
 /* ---- One yarn, by a record of six floats: x, p, a, q, h, r. The bits are those of the filter at
    n = m = 1, with no room to work in. */
 
-/* x = a*x, p = a*p*a + q. Buffer 0: the record. */
+/* x = a*x, p = a*p*a + q. What is not finite is not refused here, as in yurgamysh_predict.
+   Buffer 0: the record. */
 size_t yurgamysh_one_state_predict(float *record, size_t record_len);
 
-/* x and p as the reading z moves them. Refusal YURGAMYSH_PIVOT (400) leaves the record as lent.
-   Buffer 0: the record. */
+/* x and p as the reading z moves them. Refusal YURGAMYSH_PIVOT (400) leaves the record as lent, and so
+   does YURGAMYSH_NOT_FINITE (900), where the new x or p is an infinity or a NaN; so is x wherever z is
+   one. Buffer 0: the record. */
 size_t yurgamysh_one_state_correct(float *record, size_t record_len, float z);
 
 /* ---- Decomposition and inverse */

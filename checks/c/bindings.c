@@ -12,12 +12,16 @@
 #include "model.h"
 #include "room.h"
 
+#include <float.h>
+#include <math.h>
 #include <stdio.h>
 #include <string.h>
 
 static unsigned long calls, numbers, failures, told;
 /* Which codes a function has given: seen[code]. */
-static char seen[500];
+static char seen[1000];
+/* Which kinds of input it has refused with 9. */
+static char not_finite[KINDS];
 
 /* Tells the first three of each function. */
 static void fail(const char *name, const char *what) {
@@ -26,11 +30,11 @@ static void fail(const char *name, const char *what) {
         printf("%s: %s\n", name, what);
 }
 
-/* Lends each buffer with `extra` floats past its matrix, filled by kind, from a marked room. */
+/* Lends each buffer, up to `extra` floats past its matrix, filled by kind, from a marked room. */
 static void lend(const struct function *f, struct call *c, enum kind kind, size_t extra) {
     size_t k, buffers = strlen(f->writes);
     for (k = 0; k < buffers; k++) {
-        size_t tail = k < f->counted ? (extra + k) % (extra + 1) : 0;
+        size_t tail = k < f->counted ? draw() % (extra + 1) : 0;
         c->buffer[k].len = cells_of(f, c, k) + tail;
         c->buffer[k].at = room_end(k) - c->buffer[k].len;
         room_mark(k);
@@ -42,8 +46,11 @@ static void lend(const struct function *f, struct call *c, enum kind kind, size_
     c->value[1] = draw_number(kind);
 }
 
+/* It gives x and P anew, so refusal 9 is one of its answers. */
+static int corrects(const struct function *f) { return strchr(f->writes, 'k') != NULL; }
+
 /* Makes the call, and holds its answer and every number to the rules. */
-static void make(const struct function *f, const struct call *c) {
+static size_t make(const struct function *f, const struct call *c) {
     static float before[MOST_BUFFERS][ROOM_FLOATS];
     struct call expected = *c;
     size_t k, i, code, want, buffers = strlen(f->writes);
@@ -69,15 +76,15 @@ static void make(const struct function *f, const struct call *c) {
     for (k = 0; k < buffers; k++) {
         size_t start = ROOM_FLOATS - c->buffer[k].len;
         /* any NaN will do, but only where the rules have the call write one */
-        size_t end = want == 0 || want >= 400 ? start + cells_of(f, c, k) : start;
+        int written = want == 0 ? f->writes[k] != 'r' : want >= 400 && f->writes[k] == 'w';
+        size_t end = written ? start + cells_of(f, c, k) : start;
         for (i = 0; i < ROOM_FLOATS; i++) {
             uint32_t found = bits_of((room_end(k) - ROOM_FLOATS)[i]),
                      wanted = bits_of(before[k][i]);
             numbers++;
             if (found == wanted)
                 continue;
-            if (f->writes[k] == 'w' && i >= start && i < end && is_nan_bits(found) &&
-                is_nan_bits(wanted))
+            if (i >= start && i < end && is_nan_bits(found) && is_nan_bits(wanted))
                 continue;
             sprintf(what, "code %lu, buffer %lu, cell %ld of %lu: %08lx, expected %08lx",
                     (unsigned long)code, (unsigned long)k, (long)i - (long)start,
@@ -86,6 +93,7 @@ static void make(const struct function *f, const struct call *c) {
             break;
         }
     }
+    return code;
 }
 
 /* Every size up to 16, each kind of input, with and without tails. */
@@ -112,9 +120,53 @@ static void good_input(const struct function *f) {
                     }
                     for (kind = 0; kind < KINDS; kind++) {
                         lend(f, &c, (enum kind)kind, round % 4);
-                        make(f, &c);
+                        if (make(f, &c) == 900)
+                            not_finite[kind] = 1;
                     }
                 }
+}
+
+/* A correction in which entry e, of the new x and then of P, overflows and no other does: state s
+   is the only one that is seen, and has large entries of P in common with others. */
+static void one_entry(const struct function *f, size_t n, size_t e) {
+    size_t i = e < n ? e : (e - n) / n, j = e < n ? e : (e - n) % n, s = 0, k;
+    size_t m = 1 + draw() % 16, reading = f->counted == MOST_BUFFERS ? 3 : 4;
+    float *x, *p, *h, *y, *r;
+    struct call c;
+    memset(&c, 0, sizeof c);
+    c.size[0] = n;
+    c.size[1] = m;
+    lend(f, &c, WHOLE, draw() % 4);
+    for (k = 0; k <= 4; k++)
+        memset(c.buffer[k].at, 0, cells_of(f, &c, k) * sizeof(float));
+    x = c.buffer[0].at;
+    p = c.buffer[1].at;
+    h = c.buffer[2].at;
+    /* z and R of a correction, R and y of an update */
+    y = c.buffer[reading].at;
+    r = c.buffer[7 - reading].at;
+    while (s == i || s == j)
+        s++;
+    h[s] = p[s * n + s] = 1.0f;
+    y[0] = 4.0f;
+    for (k = 0; k < m; k++)
+        r[k * m + k] = 3.0f;
+    if (e < n) {
+        x[i] = FLT_MAX;
+        p[i * n + s] = ldexpf(1.0f, 120);
+    } else {
+        p[i * n + s] = p[s * n + j] = ldexpf(1.0f, 100);
+    }
+    if (make(f, &c) != 900)
+        fail(f->name, "an entry that is not finite was taken");
+}
+
+static void each_entry(const struct function *f) {
+    size_t n, e;
+    if (corrects(f) && f->sizes == 2)
+        for (n = 3; n <= 16; n++)
+            for (e = 0; e < n + n * n; e++)
+                one_entry(f, n, e);
 }
 
 static void good_sizes(const struct function *f, struct call *c, size_t round) {
@@ -145,7 +197,7 @@ static void bad_sizes(const struct function *f, size_t round) {
     for (k = 0; k < f->sizes; k++)
         for (i = 0; i < sizeof bad / sizeof bad[0]; i++) {
             good_sizes(f, &c, round);
-            lend(f, &c, FRACTIONS, 2);
+            lend(f, &c, round % 2 ? BAD_READING : FRACTIONS, 2);
             c.size[k] = bad[i];
             refused(f, &c, 100 + k);
             c.row = c.column = (size_t)-1;
@@ -164,7 +216,7 @@ static void short_buffers(const struct function *f, size_t round) {
     for (k = 0; k < f->counted; k++)
         for (how = 0; how < 4; how++) {
             good_sizes(f, &c, round);
-            lend(f, &c, FRACTIONS, 0);
+            lend(f, &c, round % 2 ? BAD_READING : FRACTIONS, 0);
             if (how == 0) {
                 c.buffer[k].len -= 1;
                 c.buffer[k].at += 1;
@@ -206,20 +258,23 @@ static void out_of_range(const struct function *f, size_t round) {
 static void all_answers_seen(const struct function *f) {
     size_t k, pivots = 0;
     char what[80];
-    for (k = 0; k < 400; k++) {
+    for (k = 0; k < sizeof seen; k++) {
         int has = k == 0 || (k >= 100 && k < 100 + f->sizes) ||
                   (k >= 200 && k < 200 + f->counted) || (k == 300 && f->has_row) ||
-                  (k == 301 && f->has_column);
-        if (seen[k] == has)
+                  (k == 301 && f->has_column) || (k == 900 && corrects(f));
+        if (seen[k] == has || k / 100 == 4)
             continue;
         sprintf(what, "the code %lu was %s", (unsigned long)k, has ? "never given" : "given");
         fail(f->name, what);
     }
-    for (k = 400; k < sizeof seen; k++)
+    for (k = 400; k < 500; k++)
         pivots += (size_t)seen[k];
     /* pivot 0 alone for the one-state filter, and each from 0 to 15 elsewhere */
     if (pivots != (!f->has_pivots ? 0u : f->sizes == 0 ? 1u : 16u))
         fail(f->name, "not every pivot was refused");
+    for (k = BAD_READING; k <= P_OVERFLOWS; k++)
+        if (not_finite[k] != corrects(f))
+            fail(f->name, "refusal 9 was not given for each kind of input that asks for it");
 }
 
 static void number_functions(void) {
@@ -251,8 +306,10 @@ int main(void) {
     }
     for (i = 0; i < function_count; i++) {
         memset(seen, 0, sizeof seen);
+        memset(not_finite, 0, sizeof not_finite);
         told = 0;
         good_input(&functions[i]);
+        each_entry(&functions[i]);
         for (round = 0; round < 30; round++) {
             bad_sizes(&functions[i], round);
             short_buffers(&functions[i], round);

@@ -12,8 +12,6 @@
 /* A buffer as the header takes it: the pointer and its length. */
 #define LENT(k) c->buffer[k].at, c->buffer[k].len
 
-static size_t pivot_code(size_t all, size_t pivot) { return pivot < all ? 400 + pivot : 0; }
-
 static size_t fill(const struct call *c, size_t cells, float x) {
     size_t i;
     for (i = 0; i < cells; i++)
@@ -30,9 +28,8 @@ static size_t one_state(const struct call *c, int corrects) {
         return 0;
     }
     model_innovation(1, 1, &record[0], &record[4], &c->value[0], &room[0]);
-    return pivot_code(1,
-                      model_update(1, 1, &record[0], &record[1], &record[4], &record[5], &room[0],
-                                   &room[1], &room[2], &room[3], &room[4], &room[5], &room[6]));
+    return model_update(1, 1, &record[0], &record[1], &record[4], &record[5], &room[0], &room[1],
+                        &room[2], &room[3], &room[4], &room[5], &room[6]);
 }
 
 static size_t lib_predict(const struct call *c) {
@@ -78,8 +75,7 @@ static size_t lib_update(const struct call *c) {
 }
 
 static size_t rules_update(const struct call *c) {
-    return pivot_code(
-        M, model_update(N, M, B(0), B(1), B(2), B(3), B(4), B(5), B(6), B(7), B(8), B(9), B(10)));
+    return model_update(N, M, B(0), B(1), B(2), B(3), B(4), B(5), B(6), B(7), B(8), B(9), B(10));
 }
 
 static size_t lib_correct(const struct call *c) {
@@ -89,8 +85,7 @@ static size_t lib_correct(const struct call *c) {
 
 static size_t rules_correct(const struct call *c) {
     model_innovation(N, M, B(0), B(2), B(3), B(5));
-    return pivot_code(
-        M, model_update(N, M, B(0), B(1), B(2), B(4), B(5), B(6), B(7), B(8), B(9), B(10), B(11)));
+    return model_update(N, M, B(0), B(1), B(2), B(4), B(5), B(6), B(7), B(8), B(9), B(10), B(11));
 }
 
 static size_t lib_one_state_predict(const struct call *c) {
@@ -110,7 +105,8 @@ static size_t lib_cholesky_decompose_lower(const struct call *c) {
 }
 
 static size_t rules_cholesky_decompose_lower(const struct call *c) {
-    return pivot_code(N, model_decompose(N, B(0)));
+    size_t pivot = model_decompose(N, B(0));
+    return pivot < N ? 400 + pivot : 0;
 }
 
 static size_t lib_invert_l_cholesky(const struct call *c) {
@@ -358,10 +354,10 @@ const struct function functions[] = {
     ROW(predict_x, 1, "0a000a", "wrw", 3, 0, 0, 0),
     ROW(predict_p, 1, "00000000", "rwrw", 4, 0, 0, 0),
     ROW(innovation, 2, "0a101a1a", "rrrw", 4, 0, 0, 0),
-    ROW(update, 2, "0a0010111a110111100100", "wwrrrwwwwww", 11, 0, 0, 1),
-    ROW(correct, 2, "0a00101a111a110111100100", "wwrrrwwwwwww", 12, 0, 0, 1),
+    ROW(update, 2, "0a0010111a110111100100", "kkrrrwwwwww", 11, 0, 0, 1),
+    ROW(correct, 2, "0a00101a111a110111100100", "kkrrrwwwwwww", 12, 0, 0, 1),
     ROW(one_state_predict, 0, "af", "w", 1, 0, 0, 0),
-    ROW(one_state_correct, 0, "af", "w", 1, 0, 0, 1),
+    ROW(one_state_correct, 0, "af", "k", 1, 0, 0, 1),
     ROW(cholesky_decompose_lower, 1, "00", "w", 1, 0, 0, 1),
     ROW(invert_l_cholesky, 1, "0000", "rw", 2, 0, 0, 0),
     ROW(get, 2, "01aa", "rw", 1, 1, 1, 0),

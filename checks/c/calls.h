@@ -24,7 +24,8 @@ struct function {
     /* Two letters a buffer, its rows and columns: 0 to 2 are the size of this index, a to f are 1
      * to 6. */
     const char *shapes;
-    /* A letter a buffer: w where the call may write it, r where it only reads it. */
+    /* A letter a buffer: w where the call may write it, r where it only reads it, k where an
+       accepted call writes it and a refused one keeps it: x and P of a correction. */
     const char *writes;
     /* Buffers past this count come with no length: the one float that get writes. */
     size_t counted;

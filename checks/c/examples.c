@@ -6,6 +6,7 @@
 #include <float.h>
 #include <math.h>
 #include <stdio.h>
+#include <string.h>
 
 static size_t made, wrong;
 
@@ -119,6 +120,141 @@ static void corrections(void) {
                                     same(6, record, after));
 }
 
+/* The buffers of a correction of two states by one reading: what it goes by, and what it works in.
+   Those that are written have a float past their matrix. */
+struct given {
+    float x[3], p[5], h[2], z[1], r[1];
+};
+struct work {
+    float y[2], s[2], k[3], s_inv[2], hp[3], pht[3], khp[5];
+};
+
+/* S = 8 + 16 + 40, and every number is exact. */
+static const struct given two = {{3, 2, 77}, {4, 2, 2, 3, 77}, {1, 2}, {17}, {40}},
+                          two_after = {{4.25f, 3.25f, 77}, {3, 1, 1, 2, 77}, {1, 2}, {17}, {40}};
+static const struct work unused = {{0.5f, 77},       {1.5f, 77},    {2.5f, 3.5f, 77}, {4.5f, 77},
+                                   {5.5f, 6.5f, 77}, {7.5f, 8, 77}, {9, 9, 9, 9, 77}},
+                         two_work = {{10, 77},   {8, 77},    {0.125f, 0.125f, 77}, {0.015625f, 77},
+                                     {8, 8, 77}, {8, 8, 77}, {1, 1, 1, 1, 77}};
+
+static size_t correct_two(struct given *g, struct work *w) {
+    return yurgamysh_correct(2, 1, g->x, 3, g->p, 5, g->h, 2, g->z, 1, g->r, 1, w->y, 2, w->s, 2,
+                             w->k, 3, w->s_inv, 2, w->hp, 3, w->pht, 3, w->khp, 5);
+}
+
+static size_t update_two(struct given *g, struct work *w) {
+    return yurgamysh_update(2, 1, g->x, 3, g->p, 5, g->h, 2, g->r, 1, w->y, 2, w->s, 2, w->k, 3,
+                            w->s_inv, 2, w->hp, 3, w->pht, 3, w->khp, 5);
+}
+
+static int same_work(const struct work *found, const struct work *want) {
+    return same(2, found->y, want->y) && same(2, found->s, want->s) && same(3, found->k, want->k) &&
+           same(2, found->s_inv, want->s_inv) && same(3, found->hp, want->hp) &&
+           same(3, found->pht, want->pht) && same(5, found->khp, want->khp);
+}
+
+/* The correction, and the update from its y, give this code and leave every number so. */
+static void expect_two(const char *what, const struct given *lent, size_t code,
+                       const struct given *after, const struct work *work) {
+    struct given g = *lent;
+    struct work w = unused;
+    expect(what,
+           correct_two(&g, &w) == code && memcmp(&g, after, sizeof g) == 0 && same_work(&w, work));
+    g = *lent;
+    w = unused;
+    w.y[0] = work->y[0];
+    expect(what,
+           update_two(&g, &w) == code && memcmp(&g, after, sizeof g) == 0 && same_work(&w, work));
+}
+
+static void bad_readings(void) {
+    const float bad[] = {NAN, INFINITY, -INFINITY};
+    struct given g = two, after = two_after;
+    struct work work = two_work;
+    size_t i;
+    expect_two("two states", &two, 0, &two_after, &two_work);
+    for (i = 0; i < 3; i++) {
+        g.z[0] = work.y[0] = bad[i];
+        expect_two("a reading that is not finite", &g, 900, &g, &work);
+    }
+    /* what lies past x and P does not count */
+    g = two;
+    g.x[2] = after.x[2] = NAN;
+    g.p[4] = after.p[4] = INFINITY;
+    expect_two("NaN past x, infinity past P", &g, 0, &after, &two_work);
+    /* the pivot is told first: S = 24 - 100 */
+    g.z[0] = NAN;
+    g.r[0] = -100;
+    work = unused;
+    work.y[0] = NAN;
+    work.s[0] = -0.0f;
+    work.hp[0] = work.hp[1] = 8;
+    expect_two("a bad reading and a bad pivot", &g, 400, &g, &work);
+}
+
+static void overflows(void) {
+    const float large = ldexpf(1.0f, 100), gain = ldexpf(1.0f, 98);
+    /* y is half of the largest number and K is 2; P would be 0 0 0 3 */
+    const struct given x_alone = {{FLT_MAX, 2, 77}, {4, 0, 0, 3, 77}, {0.5f, 0}, {FLT_MAX}, {0}};
+    const struct work x_work = {{FLT_MAX / 2, 77}, {1, 77},    {2, 0, 77},      {1, 77},
+                                {2, 0, 77},        {2, 0, 77}, {4, 0, 0, 0, 77}};
+    /* the first state has much in common with the second, the one that is seen; x would be
+       2^100 3 */
+    const struct given p_alone = {{3, 2, 77}, {1, large, large, 1, 77}, {0, 1}, {6}, {3}};
+    const struct work p_work = {{4, 77},
+                                {2, 77},
+                                {gain, 0.25f, 77},
+                                {0.25f, 77},
+                                {large, 1, 77},
+                                {large, 1, 77},
+                                {INFINITY, gain, gain, 0.25f, 77}};
+    struct given g = x_alone, after = x_alone;
+    struct work work = x_work;
+    expect_two("x alone overflows", &x_alone, 900, &x_alone, &x_work);
+    expect_two("P alone overflows", &p_alone, 900, &p_alone, &p_work);
+    /* the largest number is finite */
+    g.z[0] = after.z[0] = FLT_MAX / 2;
+    work.y[0] = after.p[0] = 0;
+    expect_two("the largest x", &g, 0, &after, &work);
+}
+
+/* The correction of the record, and of the filter at n = m = 1, gives this code and leaves the
+   record, or x and P, as lent. */
+static void expect_record(const char *what, const float *record, float z, size_t code) {
+    float found[YURGAMYSH_RECORD], x = record[0], p = record[1], w[7];
+    memcpy(found, record, sizeof found);
+    expect(what, yurgamysh_one_state_correct(found, YURGAMYSH_RECORD, z) == code &&
+                     memcmp(found, record, sizeof found) == 0);
+    expect(what,
+           yurgamysh_correct(1, 1, &x, 1, &p, 1, &record[4], 1, &z, 1, &record[5], 1, &w[0], 1,
+                             &w[1], 1, &w[2], 1, &w[3], 1, &w[4], 1, &w[5], 1, &w[6], 1) == code &&
+               same(1, &x, &record[0]) && same(1, &p, &record[1]));
+}
+
+static void spoilt_records(void) {
+    const float good[] = {1, 3, 1, 0, 1, 1}, far[] = {FLT_MAX, 4, 1, 0, 0.5f, 0},
+                top = ldexpf(1.0f, 126), wide[] = {1, top, 1, 0, 1, ldexpf(1.0f, 102) - top},
+                below[] = {1, -3, 1, 0, 1, 1}, after[] = {4, 0.75f, NAN, INFINITY, 1, 1},
+                spoilt_x[] = {INFINITY, 4, 2, 0, 1, 1}, spoilt_p[] = {2, INFINITY, 2, 0, 1, 1};
+    float model[] = {1, 3, NAN, INFINITY, 1, 1}, x_far[] = {FLT_MAX, 1, 2, 0, 1, 1},
+          p_far[] = {1, FLT_MAX, 2, 0, 1, 1};
+    expect_record("a record and NaN", good, NAN, 900);
+    expect_record("a record and infinity", good, INFINITY, 900);
+    expect_record("a record and -infinity", good, -INFINITY, 900);
+    expect_record("x of a record overflows", far, FLT_MAX, 900);
+    expect_record("p of a record overflows", wide, 1, 900);
+    expect_record("a record with a bad pivot and NaN", below, NAN, 400);
+    expect("a and q of a record are not tested",
+           yurgamysh_one_state_correct(model, YURGAMYSH_RECORD, 5) == 0 && same(6, model, after));
+    /* a prediction is not tested, and after it no correction is accepted */
+    expect("a prediction of x overflows",
+           yurgamysh_one_state_predict(x_far, YURGAMYSH_RECORD) == 0 && same(6, x_far, spoilt_x));
+    expect_record("its correction", spoilt_x, 5, 900);
+    expect("a prediction of p overflows",
+           yurgamysh_one_state_predict(p_far, YURGAMYSH_RECORD) == 0 && same(6, p_far, spoilt_p));
+    expect_record("its correction", spoilt_p, 5, 400);
+}
+
 static void products(void) {
     const float a[] = {-1}, b[] = {0}, minus_zero[] = {-0.0f}, zero[] = {0};
     float c[1];
@@ -134,6 +270,9 @@ size_t run_examples(size_t *count) {
     predictions();
     decompositions();
     corrections();
+    bad_readings();
+    overflows();
+    spoilt_records();
     products();
     *count = made;
     return wrong;

@@ -15,6 +15,11 @@ enum kind {
     LATE, /* the same, but the square of the last size (R, not P) has a cell far below zero on its
              diagonal, so that a later pivot is refused */
     BROKEN, /* the same with +infinity there */
+    BAD_READING, /* as POSITIVE, with an infinity or NaN in the vectors of the last size (z, y) and
+                    as the number given; one in four is LATE as well */
+    X_OVERFLOWS, /* as POSITIVE, with vectors and numbers at the ends of the range */
+    P_OVERFLOWS, /* as POSITIVE, with a large entry of P between two states of which H sees the last
+                    alone; of the record, p and -r are large and all but equal */
     KINDS
 };
 

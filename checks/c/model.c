@@ -2,6 +2,8 @@
 
 #include <math.h>
 
+enum { MOST_STATES = 16 };
+
 /* The processor's root is the nearest float, as IEEE 754 asks. */
 float model_square_root(float x) { return sqrtf(x); }
 
@@ -125,26 +127,35 @@ void model_innovation(size_t n, size_t m, const float *x, const float *h, const 
     model_sum(m, z, -1.0f, y, y);
 }
 
+static int all_finite(size_t cells, const float *at) {
+    size_t i;
+    for (i = 0; i < cells; i++)
+        if (!(fabsf(at[i]) < INFINITY))
+            return 0;
+    return 1;
+}
+
 size_t model_update(size_t n, size_t m, float *x, float *p, const float *h, const float *r,
                     const float *y, float *s, float *k, float *temp_s_inv, float *temp_hp,
                     float *temp_pht, float *temp_khp) {
-    size_t i, j, pivot;
+    float new_x[MOST_STATES], new_p[MOST_STATES * MOST_STATES];
+    size_t pivot;
     model_mult(m, n, n, h, p, temp_hp);
     model_mult_transb(m, n, m, temp_hp, h, s);
     model_sum(m * m, s, 1.0f, r, s);
     pivot = model_decompose(m, s);
     if (pivot < m)
-        return pivot;
+        return 400 + pivot;
     model_invert(m, s, temp_s_inv);
     model_mult_transb(n, n, m, p, h, temp_pht);
     model_mult(n, m, m, temp_pht, temp_s_inv, k);
-    for (i = 0; i < n; i++) {
-        float total = k[i * m] * y[0];
-        for (j = 1; j < m; j++)
-            total += k[i * m + j] * y[j];
-        x[i] += total;
-    }
+    model_mult_rowvector(n, m, k, y, new_x);
+    model_sum(n, x, 1.0f, new_x, new_x);
     model_mult(n, m, n, k, temp_hp, temp_khp);
-    model_sum(n * n, p, -1.0f, temp_khp, p);
-    return m;
+    model_sum(n * n, p, -1.0f, temp_khp, new_p);
+    if (!all_finite(n, new_x) || !all_finite(n * n, new_p))
+        return 900;
+    model_copy(n, new_x, x);
+    model_copy(n * n, new_p, p);
+    return 0;
 }

@@ -24,7 +24,8 @@ void model_invert(size_t n, const float *l, float *inv);
 void model_predict_x(size_t n, float *x, const float *a, float *predicted_x);
 void model_predict_p(size_t n, const float *a, float *p, const float *q, float *temp_p);
 void model_innovation(size_t n, size_t m, const float *x, const float *h, const float *z, float *y);
-/* m, or the first pivot of S that is not above zero, or not finite. */
+/* The code: 0; 400 and the first pivot of S that is not above zero, or not finite; 900 where some
+   entry of the new x or P is not finite. Refused, x and P stay. */
 size_t model_update(size_t n, size_t m, float *x, float *p, const float *h, const float *r,
                     const float *y, float *s, float *k, float *temp_s_inv, float *temp_hp,
                     float *temp_pht, float *temp_khp);

@@ -189,7 +189,7 @@ pub struct Call {
 
 #[derive(Clone)]
 pub struct Answer {
-    /// 0 done, 1 to 4 refused.
+    /// 0 done, 1 to 4 or 9 refused.
     pub number: u32,
     /// What the refusal carries, 0 if nothing.
     pub carried: u32,
@@ -211,6 +211,7 @@ pub enum Tag {
     NanPivot,
     InfinitePivot,
     Verdict,
+    NotFinite,
 }
 
 pub const TAGS: &[Tag] = &[
@@ -224,6 +225,7 @@ pub const TAGS: &[Tag] = &[
     Tag::NanPivot,
     Tag::InfinitePivot,
     Tag::Verdict,
+    Tag::NotFinite,
 ];
 
 impl Tag {
@@ -239,6 +241,7 @@ impl Tag {
             Tag::NanPivot => "nan_pivot",
             Tag::InfinitePivot => "infinite_pivot",
             Tag::Verdict => "verdict",
+            Tag::NotFinite => "not_finite",
         }
     }
 }

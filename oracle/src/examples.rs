@@ -338,24 +338,67 @@ pub fn all() -> Vec<Example> {
     );
     wire.differs = true;
     out.push(wire);
-    let record = |what, before: [f32; 6], after: [f32; 6]| {
+    // z = NaN: no pivot tells it, the new x does.
+    let mut reading = refused(
+        done(
+            "x = 1, P = 3, H = R = 1, z = NaN is refused",
+            Correct,
+            &[1, 1],
+            &[
+                &[1.0],
+                &[3.0],
+                &[1.0],
+                &[NAN],
+                &[1.0],
+                rest,
+                rest,
+                rest,
+                rest,
+                rest,
+                rest,
+                rest,
+            ],
+            &[
+                &[1.0],
+                &[3.0],
+                &[1.0],
+                &[NAN],
+                &[1.0],
+                &[NAN],
+                &[2.0],
+                &[0.75],
+                &[0.25],
+                &[3.0],
+                &[3.0],
+                &[2.25],
+            ],
+        ),
+        9,
+        0,
+    );
+    reading.differs = true;
+    out.push(reading);
+    let record = |what, z: f32, before: [f32; 6], after: [f32; 6]| {
         let mut e = done(what, OneStateCorrect, &[], &[&before], &[&after]);
-        e.call.scalars = vec![5.0];
+        e.call.scalars = vec![z];
         e
     };
+    let good = [1.0, 3.0, 1.0, 0.0, 1.0, 1.0];
     out.push(record(
         "the record x = 1, p = 3, h = r = 1, z = 5",
-        [1.0, 3.0, 1.0, 0.0, 1.0, 1.0],
+        5.0,
+        good,
         [4.0, 0.75, 1.0, 0.0, 1.0, 1.0],
     ));
     let broken = [1.0, 3.0, 1.0, 0.0, 1.0, INF];
-    let mut wire = refused(
-        record("the record with r = +infinity is refused", broken, broken),
-        4,
-        0,
-    );
-    wire.differs = true;
-    out.push(wire);
+    for (what, z, lent, number) in [
+        ("the record with r = +infinity is refused", 5.0, broken, 4),
+        ("the record with z = NaN is refused", NAN, good, 9),
+    ] {
+        let mut e = refused(record(what, z, lent, lent), number, 0);
+        e.differs = true;
+        out.push(e)
+    }
     // Two inputs that tell a sum of floats that starts at -0 from one that starts at +0.
     out.push(done(
         "[1 0; 0 -1] inverts with +0 off the diagonal",

@@ -17,15 +17,24 @@ pub enum Fault {
     RowVectorStart,
     /// A pivot of +infinity is taken.
     TakesInfinity,
+    /// The new x is tested and not the new P.
+    XOnly,
+    /// The new P is tested and not the new x.
+    POnly,
+    /// The new x is written before it and the new P are tested.
+    XBeforeTest,
 }
 
-pub const NAMES: [(&str, Fault); 6] = [
+pub const NAMES: [(&str, Fault); 9] = [
     ("fused_multiply_add", Fault::FusedMultiplyAdd),
     ("zero_start", Fault::ZeroStart),
     ("one_reciprocal", Fault::OneReciprocal),
     ("far_end", Fault::FarEnd),
     ("row_vector_start", Fault::RowVectorStart),
     ("takes_infinity", Fault::TakesInfinity),
+    ("x_only", Fault::XOnly),
+    ("p_only", Fault::POnly),
+    ("x_before_test", Fault::XBeforeTest),
 ];
 
 thread_local! {

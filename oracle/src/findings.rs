@@ -394,8 +394,41 @@ fn main() {
         |b| { let [x, y] = b else { return none() }; Lent::<17, 1>(x).add_inplace_a(&Lent::<17, 1>(y)); none() },
         "refusal 1, the first size; nothing changed");
 
-    head("Not a difference, noted because the words may mislead");
-    row("correct, a bad reading", "x = 1, P = 3, H = R = 1, z = NaN; the rest 7", TWELVE, one(1.0, 3.0, NAN, 1.0, None),
+    head("New x and P that are not finite");
+    row("correct, z = NaN", "x = 1, P = 3, H = R = 1, z = NaN; the rest 7", TWELVE, one(1.0, 3.0, NAN, 1.0, None),
         |b| { correct::<1, 1>(b, |_| {}); none() },
-        "the same: z does not enter S, so no pivot shows it");
+        "refusal 9; x and P as lent, all else the same");
+    row("correct twice, z = NaN and then 5", "the same, and then z = 5", TWELVE, one(1.0, 3.0, NAN, 1.0, None),
+        |b| { correct::<1, 1>(b, |_| {}); b[3][0] = 5.0; correct::<1, 1>(b, |_| {}); none() },
+        "refusal 9, then done: x [40800000], P [3f400000]");
+    row("correct, z = ∞", "x = 1, P = 3, H = R = 1, z = ∞; the rest 7", TWELVE, one(1.0, 3.0, f32::INFINITY, 1.0, None),
+        |b| { correct::<1, 1>(b, |_| {}); none() },
+        "refusal 9; x and P as lent, all else the same");
+    row("update from a given y, y = NaN", "x = 1, P = 3, H = R = 1, y = NaN by the closure; the rest 7", TWELVE, one(1.0, 3.0, 0.0, 1.0, None),
+        |b| { correct::<1, 1>(b, |y| y[0] = NAN); none() },
+        "refusal 9; x and P as lent, all else the same");
+    row("correct, x = ∞", "x = ∞, P = 3, H = R = 1, z = 5; the rest 7", TWELVE, one(f32::INFINITY, 3.0, 5.0, 1.0, None),
+        |b| { correct::<1, 1>(b, |_| {}); none() },
+        "refusal 9; x and P as lent, all else the same");
+    let seen = |mut b: Vec<Vec<f32>>, h: f32| { b[2][0] = h; b };
+    row("correct, x overflows and P does not", "x = z = 3.4028235e38 (7f7fffff), P = 4, H = 0.5, R = 1; the rest 7", TWELVE,
+        seen(one(f32::MAX, 4.0, f32::MAX, 1.0, None), 0.5),
+        |b| { correct::<1, 1>(b, |_| {}); none() },
+        "refusal 9; x and P as lent, all else the same");
+    row("correct, P overflows and x does not", "x = 1, P = −3.4028235e38 (ff7fffff), H = 2^−64, z = 5, R = 2; the rest 7", TWELVE,
+        seen(one(1.0, -f32::MAX, 5.0, 2.0, None), 2f32.powi(-64)),
+        |b| { correct::<1, 1>(b, |_| {}); none() },
+        "refusal 9; x and P as lent, all else the same");
+    row("correct, an infinite gain from a finite S", "x = 1, P = R = 2^−140 (00000200), H = 1, z = 5; the rest 7", TWELVE,
+        one(1.0, f32::from_bits(0x200), 5.0, f32::from_bits(0x200), None),
+        |b| { correct::<1, 1>(b, |_| {}); none() },
+        "refusal 9; x and P as lent, all else the same");
+
+    head("Not a difference, noted because the words may mislead");
+    let mut past = one(1.0, 3.0, 5.0, 1.0, None);
+    past[0].push(NAN);
+    past[1].push(f32::INFINITY);
+    row("correct, NaN past x and ∞ past P", "x = [1] and a tail [NaN], P = [3] and a tail [∞], H = R = 1, z = 5; the rest 7", TWELVE, past,
+        |b| { correct::<1, 1>(b, |_| {}); none() },
+        "the same: what lies past n and n·n is not tested");
 }

@@ -2,7 +2,9 @@
 //! function came before it, so that a list of fewer functions holds the same lines of those.
 
 use crate::calls::{Call, Function, Places, ALL};
-use crate::inputs::{mark, number, numbers, shape, symmetric, Kind, Random, Shape, KINDS};
+use crate::inputs::{
+    mark, nan, not_finite, number, numbers, shape, symmetric, Kind, Random, Shape, KINDS,
+};
 use crate::model;
 
 /// No buffer in a list has more numbers.
@@ -31,8 +33,9 @@ pub fn weight(plan: Plan, f: Function) -> usize {
         (Plan::Small, Recip) => 4,
         (Plan::Small, SquareRoot) => 9,
         (Plan::Small, CholeskyDecomposeLower) => 5,
-        (Plan::Small, Correct | Mult | MultBuffered | MultTransb) => 2,
-        (Plan::Small, MultaddTransb | MultscaleTransb | OneStateCorrect) => 2,
+        (Plan::Small, Correct) => 3,
+        (Plan::Small, Mult | MultBuffered | MultTransb | MultaddTransb | MultscaleTransb) => 2,
+        (Plan::Small, UpdateWithInnovation | OneStateCorrect) => 2,
         (Plan::Small, _) => 1,
     }
 }
@@ -93,7 +96,12 @@ fn refused_every(f: Function) -> u64 {
     }
 }
 
+/// One line in so many of a correction, an update and a record's correction has what is `wanted`, those
+/// refused before any work not counted.
+const ASKED_EVERY: u64 = 10;
+
 fn call(plan: Plan, seed: u64, f: Function, count: u64) -> Call {
+    use Function::*;
     let r = &mut Random::new(seed, f as u64, count);
     let every = refused_every(f);
     if f.sizes() > 0 && count % every == every - 1 {
@@ -103,46 +111,142 @@ fn call(plan: Plan, seed: u64, f: Function, count: u64) -> Call {
         spoil(r, &mut call);
         return call;
     }
-    let turn = count - count / every;
+    let mut turn = count;
+    if f.sizes() > 0 {
+        turn -= count / every
+    }
+    if plan == Plan::Even && matches!(f, Correct | UpdateWithInnovation | OneStateCorrect) {
+        if turn % ASKED_EVERY == ASKED_EVERY - 1 {
+            let (sizes, asked) = asked_in_turn(seed, f, turn / ASKED_EVERY);
+            return accepted(r, f, sizes, Some(asked));
+        }
+        turn -= turn / ASKED_EVERY
+    }
     let sizes = match plan {
         Plan::Even => even(seed, f, turn),
         Plan::Small => small(r, f, turn as usize),
     };
     let infinite = match (plan, f) {
-        (Plan::Even, Function::CholeskyDecomposeLower) => infinite_at(turn, sizes[0]),
+        (Plan::Even, CholeskyDecomposeLower) => infinite_at(turn, sizes[0]),
         _ => None,
     };
     accepted(r, f, sizes, infinite)
 }
 
-/// Where a decomposition of a list has +infinity on its diagonal: in every sixth round of the sizes, at the
-/// next index each time. 96 rounds, 1,536 accepted lines, have it at each index of each size.
-fn infinite_at(turn: u64, n: usize) -> Option<usize> {
-    let round = turn / 16;
-    (round % 6 == 5).then(|| (round / 6) as usize % n)
+/// What a line is to have, where that is not left to chance.
+#[derive(Clone, Copy)]
+enum Asked {
+    /// +infinity on the diagonal, at this index, of the matrix to decompose or of R; as r of a record.
+    Pivot(usize),
+    /// This reading at this index; of an update, in y.
+    Reading(usize, f32),
+    /// Finite numbers from which the new x overflows, at this index alone.
+    NewX(usize),
+    /// Finite numbers from which the new P overflows, at this row and column alone.
+    NewP(usize, usize),
+    /// Finite numbers and a finite S, whose inverse is not, and so not the gain.
+    Inverse,
+    /// Finite numbers and a finite inverse, and a gain that overflows in this row alone: n is above 1.
+    GainRow(usize),
+    /// An x, or a P, that is not finite as lent, at this place.
+    LentX(usize),
+    LentP(usize, usize),
+    /// NaN and infinities past x and past P, and nowhere else.
+    Tails,
 }
 
-/// For a short list: +infinity on the diagonal at each index, of a matrix to decompose and of R, and records
-/// whose r is +infinity.
-pub fn infinite_pivots(seed: u64) -> Vec<Call> {
-    use Function::*;
-    let matrices = [1, 2, 3, 4, 5, 6, 9, 16].map(|n| vec![n]);
-    let filters = [[1, 1], [2, 1], [2, 2], [4, 2], [3, 3], [6, 3], [9, 3]].map(|s| s.to_vec());
+/// What a correction or an update of m readings is asked for.
+fn of_readings(m: usize) -> Vec<Asked> {
+    let bad = [f32::NAN, f32::INFINITY, f32::NEG_INFINITY];
+    (0..m)
+        .flat_map(|i| bad.map(|v| Asked::Reading(i, v)))
+        .collect()
+}
+
+/// And of n states.
+fn of_states(n: usize) -> Vec<Asked> {
     let mut out = vec![];
-    let mut add = |f: Function, sizes: &[usize], indices: usize| {
-        for i in 0..indices {
+    for j in 0..n {
+        out.push(Asked::NewX(j));
+        // the last cell; else one of the first row or of the diagonal
+        let row = if j % 2 == 1 && j < n - 1 { 0 } else { j };
+        out.push(Asked::NewP(row, j))
+    }
+    if n > 1 {
+        out.push(Asked::GainRow(0))
+    }
+    out.extend([
+        Asked::Inverse,
+        Asked::LentX(n - 1),
+        Asked::LentP(0, n - 1),
+        Asked::Tails,
+    ]);
+    out
+}
+
+fn wanted(f: Function, n: usize, m: usize) -> Vec<Asked> {
+    let mut out = of_readings(m);
+    out.extend(of_states(n));
+    // a record has nothing past its six numbers
+    out.retain(|asked| f != Function::OneStateCorrect || !matches!(asked, Asked::Tails));
+    out
+}
+
+/// Sizes, and what is asked for, of the turn-th such line. All that is wanted, of each n and each m, is there
+/// once in 759 of them, and in the next 759 beside another m or n. The next seed begins 90 further on: nine
+/// lists of 25,000 lines, of seeds that follow each other, have it all.
+fn asked_in_turn(seed: u64, f: Function, turn: u64) -> (Vec<usize>, Asked) {
+    let turn = turn.wrapping_add(seed.wrapping_mul(90));
+    if f == Function::OneStateCorrect {
+        let all = wanted(f, 1, 1);
+        return (vec![], all[turn as usize % all.len()]);
+    }
+    let other = 1 + turn as usize % 16;
+    let mut all = vec![];
+    for k in 1..=16 {
+        all.extend(of_readings(k).into_iter().map(|asked| ([other, k], asked)));
+        all.extend(of_states(k).into_iter().map(|asked| ([k, other], asked)))
+    }
+    let count = all.len() as u64;
+    let (sizes, asked) = all[(turn % count * 317 % count) as usize];
+    (sizes.to_vec(), asked)
+}
+
+/// Where a decomposition of a list has +infinity on its diagonal: in every sixth round of the sizes, at the
+/// next index each time. 96 rounds, 1,536 accepted lines, have it at each index of each size.
+fn infinite_at(turn: u64, n: usize) -> Option<Asked> {
+    let round = turn / 16;
+    (round % 6 == 5).then(|| Asked::Pivot((round / 6) as usize % n))
+}
+
+/// For a short list: +infinity on the diagonal at each index, of a matrix to decompose and of R, and as r of
+/// records; all that is wanted at some small sizes and of records, and at a larger size the last entries.
+pub fn asked_lines(seed: u64) -> Vec<Call> {
+    use Function::*;
+    let mut out = vec![];
+    let mut add = |f: Function, sizes: &[usize], asked: Vec<Asked>| {
+        for asked in asked {
             let r = &mut Random::new(seed, f as u64, u64::MAX - 1 - out.len() as u64);
-            out.push(accepted(r, f, sizes.to_vec(), Some(i)))
+            out.push(accepted(r, f, sizes.to_vec(), Some(asked)))
         }
     };
-    matrices
-        .iter()
-        .for_each(|s| add(CholeskyDecomposeLower, s, s[0]));
-    filters.iter().for_each(|s| add(Correct, s, s[1]));
-    filters
-        .iter()
-        .for_each(|s| add(UpdateWithInnovation, s, s[1]));
-    add(OneStateCorrect, &[], 6);
+    let pivots = |count: usize| (0..count).map(Asked::Pivot).collect();
+    for n in [1, 2, 3, 4, 5, 6, 9, 16] {
+        add(CholeskyDecomposeLower, &[n], pivots(n))
+    }
+    for f in [Correct, UpdateWithInnovation] {
+        for [n, m] in [[1, 1], [2, 1], [2, 2], [4, 2], [3, 3], [6, 3], [9, 2]] {
+            add(f, &[n, m], pivots(m))
+        }
+    }
+    add(OneStateCorrect, &[], vec![Asked::Pivot(0); 6]);
+    for f in [Correct, UpdateWithInnovation] {
+        for [n, m] in [[1, 1], [3, 1], [1, 2], [2, 2], [2, 3]] {
+            add(f, &[n, m], wanted(f, n, m))
+        }
+        add(f, &[9, 1], vec![Asked::NewX(8), Asked::NewP(8, 8)])
+    }
+    add(OneStateCorrect, &[], wanted(OneStateCorrect, 1, 1));
     out
 }
 
@@ -377,8 +481,8 @@ fn prediction(r: &mut Random, n: usize) -> [Vec<f32>; 4] {
     }
 }
 
-/// x, P, H, z, R of a correction; R with +infinity on its diagonal at this index, if one is given.
-fn correction(r: &mut Random, n: usize, m: usize, infinite: Option<usize>) -> [Vec<f32>; 5] {
+/// x, P, H, z, R of a correction.
+fn correction(r: &mut Random, n: usize, m: usize) -> [Vec<f32>; 5] {
     let x = if r.one_in(5) {
         any(r, n)
     } else {
@@ -397,12 +501,8 @@ fn correction(r: &mut Random, n: usize, m: usize, infinite: Option<usize>) -> [V
             .collect(),
         _ => numbers(r, Kind::Ordinary, m * n),
     };
-    if let Some(at) = infinite {
-        let p = symmetric(r, Shape::Good, n);
-        return [x, p, h, z, symmetric(r, Shape::InfiniteAt(at), m)];
-    }
     match r.below(100) {
-        0..=29 => {
+        0..=29 | 58..=63 => {
             let p = r.pick(&[Shape::Good, Shape::Good, Shape::Diagonal]);
             let noise = r.pick(&[Shape::Good, Shape::Diagonal]);
             [x, symmetric(r, p, n), h, z, symmetric(r, noise, m)]
@@ -424,7 +524,7 @@ fn correction(r: &mut Random, n: usize, m: usize, infinite: Option<usize>) -> [V
             }
             [x, p, h, z, noises]
         }
-        52..=63 => {
+        52..=57 => {
             let p = symmetric(r, Shape::Good, n);
             let mut noise = symmetric(r, Shape::Good, m);
             let at = r.below(m);
@@ -472,8 +572,63 @@ fn correction(r: &mut Random, n: usize, m: usize, infinite: Option<usize>) -> [V
     }
 }
 
-/// x, p, a, q, h, r of one yarn; r is +infinity if that is asked for.
-fn yarn(r: &mut Random, infinite: bool) -> Vec<f32> {
+/// x, P, H, z, R of a correction that has what is asked for; of an update, y in the place of z.
+fn asked_correction(r: &mut Random, n: usize, m: usize, asked: Asked) -> [Vec<f32>; 5] {
+    let shape = match asked {
+        Asked::Inverse => Shape::Low,
+        _ => r.pick(&[Shape::Good, Shape::Diagonal]),
+    };
+    // 1/2 to 1, of either sign
+    let unit = |r: &mut Random| {
+        let v = 0.5 + number(r, Kind::Ordinary).abs() / 2.0;
+        v * r.pick(&[1.0, -1.0])
+    };
+    let mut x = numbers(r, Kind::Ordinary, n);
+    let mut p = symmetric(r, shape, n);
+    let mut h: Vec<f32> = (0..m * n).map(|_| unit(r)).collect();
+    let mut z = numbers(r, Kind::Ordinary, m);
+    let mut noise = symmetric(r, shape, m);
+    match asked {
+        Asked::Pivot(i) => noise[i * m + i] = f32::INFINITY,
+        Asked::Reading(i, v) => z[i] = if v.is_nan() { nan(r) } else { v },
+        Asked::NewX(j) => {
+            // H P H' has g g' from P(j, j) and column j of H, which is g / 2^62. So row j of the gain is some
+            // 2^62, no other is large, and the new P(j, j) is below the old.
+            for i in 0..m {
+                h[i * n + j] = unit(r) / 2f32.powi(62);
+                z[i] = unit(r) * 2f32.powi(80)
+            }
+            p[j * n + j] = 2f32.powi(124)
+        }
+        Asked::NewP(a, b) => {
+            // H P H' has -g g' from P(a, b) and columns a and b of H, which are g / 2^64; R makes up for it.
+            // K H P has 2^128 g' (1/S) g at (a, b), to be taken from -2^128. Off the diagonal the signs of
+            // column b, of P(a, b) and of K H P can be the other ones.
+            let sign = if a == b { 1.0 } else { r.pick(&[1.0, -1.0]) };
+            for i in 0..m {
+                h[i * n + a] = unit(r) / 2f32.powi(64);
+                h[i * n + b] = h[i * n + a] * sign;
+                noise[i * m + i] += 2.0 * m as f32
+            }
+            p[a * n + b] = -f32::MAX * sign
+        }
+        Asked::GainRow(a) => {
+            // Column a of H is zero, so that S is small whatever row a of P holds; P H' has P(a, b) H(i, b).
+            p.iter_mut()
+                .chain(&mut noise)
+                .for_each(|v| *v /= 2f32.powi(24));
+            (0..m).for_each(|i| h[i * n + a] = 0.0);
+            p[a * n + (a + 1) % n] = 2f32.powi(127)
+        }
+        Asked::LentX(j) => x[j] = not_finite(r),
+        Asked::LentP(a, b) => p[a * n + b] = not_finite(r),
+        Asked::Inverse | Asked::Tails => {}
+    }
+    [x, p, h, z, noise]
+}
+
+/// x, p, a, q, h, r of one yarn.
+fn yarn(r: &mut Random) -> Vec<f32> {
     let model = |r: &mut Random, kind: Kind| {
         let mut out = numbers(r, kind, 6);
         // p, q and r are spreads
@@ -492,7 +647,7 @@ fn yarn(r: &mut Random, infinite: bool) -> Vec<f32> {
         }
         _ => any(r, 6),
     };
-    if infinite || r.one_in(12) {
+    if r.one_in(12) {
         out[5] = f32::INFINITY
     } else if r.one_in(12) {
         let at = r.below(6);
@@ -501,9 +656,8 @@ fn yarn(r: &mut Random, infinite: bool) -> Vec<f32> {
     out
 }
 
-/// A call that passes refusals 1 to 3; with +infinity on the diagonal of its matrix, or of its R, at the
-/// index given.
-fn accepted(r: &mut Random, f: Function, sizes: Vec<usize>, infinite: Option<usize>) -> Call {
+/// A call that passes refusals 1 to 3 and has what is asked for.
+fn accepted(r: &mut Random, f: Function, sizes: Vec<usize>, asked: Option<Asked>) -> Call {
     use Function::*;
     let needs = f.needs(&sizes);
     let rows = sizes.first().copied().unwrap_or(1);
@@ -523,7 +677,7 @@ fn accepted(r: &mut Random, f: Function, sizes: Vec<usize>, infinite: Option<usi
             vec![row, column]
         }
     };
-    let scalars = match f {
+    let mut scalars = match f {
         Recip | SquareRoot => vec![argument(r, f)],
         _ => (0..f.scalars())
             .map(|_| {
@@ -534,10 +688,21 @@ fn accepted(r: &mut Random, f: Function, sizes: Vec<usize>, infinite: Option<usi
     };
     let mut lent: Vec<Vec<f32>> = match f {
         CholeskyDecomposeLower => {
-            let shape = infinite.map_or_else(|| shape(r), Shape::InfiniteAt);
+            let shape = match asked {
+                Some(Asked::Pivot(at)) => Shape::InfiniteAt(at),
+                _ => shape(r),
+            };
             vec![symmetric(r, shape, sizes[0])]
         }
-        OneStatePredict | OneStateCorrect => vec![yarn(r, infinite.is_some())],
+        OneStatePredict | OneStateCorrect => match asked {
+            None => vec![yarn(r)],
+            Some(asked) => {
+                let [x, p, h, z, noise] = asked_correction(r, 1, 1, asked).map(|b| b[0]);
+                let [a, q] = [0, 1].map(|_| number(r, Kind::Ordinary));
+                scalars = vec![z];
+                vec![vec![x, p, a, q, h, noise]]
+            }
+        },
         InvertLCholesky => vec![factor(r, sizes[0]), scratch(r, needs[1])],
         Predict | PredictX | PredictP => {
             let [x, a, p, q] = prediction(r, sizes[0]);
@@ -550,17 +715,20 @@ fn accepted(r: &mut Random, f: Function, sizes: Vec<usize>, infinite: Option<usi
             }
         }
         Correct | Innovation | UpdateWithInnovation => {
-            let [x, p, h, z, noise] = correction(r, sizes[0], sizes[1], infinite);
+            let (n, m) = (sizes[0], sizes[1]);
+            let [x, p, h, z, noise] = match asked {
+                None => correction(r, n, m),
+                Some(asked) => asked_correction(r, n, m, asked),
+            };
             if f == Innovation {
                 vec![x, h, z, scratch(r, needs[3])]
             } else {
-                let mut all = vec![x, p, h, z, noise];
-                let y = sizes[1];
-                all.push(if f == Correct {
-                    scratch(r, y)
-                } else {
-                    any(r, y)
-                });
+                let y = match (f, asked) {
+                    (Correct, _) => scratch(r, m),
+                    (_, None) => any(r, m),
+                    (_, Some(_)) => z.clone(),
+                };
+                let mut all = vec![x, p, h, z, noise, y];
                 let rest = Correct.needs(&sizes);
                 all.extend(rest[6..].iter().map(|n| scratch(r, *n)));
                 if f == UpdateWithInnovation {
@@ -587,10 +755,15 @@ fn accepted(r: &mut Random, f: Function, sizes: Vec<usize>, infinite: Option<usi
     };
     // a record is six numbers, and nothing behind them
     let tails = !matches!(f, OneStatePredict | OneStateCorrect);
-    if tails && r.one_in(2) {
-        for b in &mut lent {
-            for _ in 0..r.below(5) {
-                b.push(mark(r))
+    let bad = matches!(asked, Some(Asked::Tails));
+    if tails && (bad || r.one_in(2)) {
+        // past x and P nothing is tested, and so now and then nothing there is finite
+        let bad = bad || matches!(f, Correct | UpdateWithInnovation) && r.one_in(3);
+        for (at, b) in lent.iter_mut().enumerate() {
+            if bad && at < 2 {
+                (0..1 + r.below(4)).for_each(|_| b.push(not_finite(r)))
+            } else {
+                (0..r.below(5)).for_each(|_| b.push(mark(r)))
             }
         }
     }

@@ -109,6 +109,19 @@ pub const SPECIALS: &[u32] = &[
     0x4b80_0000, // 2^24
 ];
 
+/// Quiet, with its sign and other bits set, or signalling.
+pub fn nan(r: &mut Random) -> f32 {
+    f32::from_bits(r.pick(&[0x7fc0_0000, 0xffc0_1234, 0x7f80_0001]))
+}
+
+pub fn not_finite(r: &mut Random) -> f32 {
+    match r.below(3) {
+        0 => f32::INFINITY,
+        1 => f32::NEG_INFINITY,
+        _ => nan(r),
+    }
+}
+
 pub fn number(r: &mut Random, kind: Kind) -> f32 {
     match kind {
         Kind::Ordinary => r.signed() as f32,
@@ -197,6 +210,8 @@ pub enum Shape {
     InfiniteAt(usize),
     /// Good, scaled to the ends of the range.
     Ends,
+    /// Good, subnormal: what it inverts to is infinite.
+    Low,
     /// Numbers of any kind, symmetric.
     Any,
     /// Numbers of any kind.
@@ -283,7 +298,7 @@ pub fn symmetric(r: &mut Random, shape: Shape, n: usize) -> Vec<f32> {
         }
         Shape::NanPivot => {
             let mut out = good(r, n, power);
-            out[at * n + right] = f32::from_bits(r.pick(&[0x7fc0_0000, 0xffc0_1234, 0x7f80_0001]));
+            out[at * n + right] = nan(r);
             out
         }
         Shape::Infinite => {
@@ -300,6 +315,7 @@ pub fn symmetric(r: &mut Random, shape: Shape, n: usize) -> Vec<f32> {
             let power = r.pick(&[-148, -140, -128, -110, 100, 120, 125]);
             good(r, n, power)
         }
+        Shape::Low => good(r, n, -138),
         Shape::Any => {
             let kind = r.pick(KINDS);
             let mut out = numbers(r, kind, n * n);

@@ -12,14 +12,14 @@ mod selftest;
 
 use calls::{write_line, Function, Tag, ALL};
 use faults::Fault;
-use generate::{infinite_pivots, Calls, Plan};
+use generate::{asked_lines, Calls, Plan};
 use std::io::{BufWriter, Write};
 use std::process::ExitCode;
 
 const USAGE: &str = "usage:
   oracle [--seed N] [--lines N] [--functions a,b,c]   a list, on standard output
   oracle --small [--seed N]                           the fixed list of checked examples and some
-                                                      3,000 lines, mostly of small sizes
+                                                      3,200 lines, mostly of small sizes
   oracle .. --fault NAME                              the same list with the answers of a program that makes
                                                       this mistake; --faults lists them
   oracle --check [FILE]                               reads a list (standard input if no file), runs the
@@ -141,7 +141,7 @@ fn list(
     let mut examples: Vec<_> = vec![];
     if plan == Plan::Small {
         examples.extend(examples::all().into_iter().map(|e| e.call));
-        examples.extend(infinite_pivots(seed))
+        examples.extend(asked_lines(seed))
     }
     let examples = examples
         .into_iter()

@@ -173,13 +173,21 @@ fn rowvector(
     }
 }
 
+/// What refuses a call past refusals 1 to 3.
+#[derive(Clone, Copy)]
+pub enum Stop {
+    /// 4: the pivot's index and the pivot.
+    Pivot(usize, f32),
+    /// 9: an entry of the new x or P is not finite.
+    NotFinite,
+}
+
 /// Whether a pivot is taken: above zero and finite.
 fn taken(pivot: f32) -> bool {
     pivot > 0.0 && (pivot < f32::INFINITY || planted(Fault::TakesInfinity))
 }
 
-/// Ok, or the refused pivot's index and the pivot.
-pub fn decompose(n: usize, t: &mut [f32]) -> Result<(), (usize, f32)> {
+pub fn decompose(n: usize, t: &mut [f32]) -> Result<(), Stop> {
     let mut d = 0.0;
     for i in 0..n {
         for j in i..n {
@@ -191,7 +199,7 @@ pub fn decompose(n: usize, t: &mut [f32]) -> Result<(), (usize, f32)> {
             t[j * n + i] = sum * d;
             if i == j {
                 if !taken(sum) {
-                    return Err((i, sum));
+                    return Err(Stop::Pivot(i, sum));
                 }
                 let root = square_root(sum);
                 t[i * n + i] = root;
@@ -260,7 +268,8 @@ fn innovation(n: usize, m: usize, x: &[f32], h: &[f32], z: &[f32], y: &mut [f32]
 }
 
 /// Buffers: x, P, H, R, y, S, K, temp_S_inv, temp_HP, temp_PHt, temp_KHP.
-fn update(n: usize, m: usize, lent: &mut [Vec<f32>]) -> Result<(), (usize, f32)> {
+/// x and P change last and together, or not at all.
+fn update(n: usize, m: usize, lent: &mut [Vec<f32>]) -> Result<(), Stop> {
     let [x, p, h, r, y, s, k, s_inv, hp, pht, khp] = lent else {
         panic!("eleven buffers")
     };
@@ -277,11 +286,19 @@ fn update(n: usize, m: usize, lent: &mut [Vec<f32>]) -> Result<(), (usize, f32)>
     }
     transb((n, n, m), p, h, pht, |_, sum| sum);
     mult(n, m, m, pht, s_inv, k);
-    rowvector((n, m), k, y, x, |c, sum| c + sum);
+    let mut new_x = x[..n].to_vec();
+    rowvector((n, m), k, y, &mut new_x, |c, sum| c + sum);
     mult(n, m, n, k, hp, khp);
-    for i in 0..n * n {
-        p[i] -= khp[i]
+    let new_p: Vec<f32> = (0..n * n).map(|i| p[i] - khp[i]).collect();
+    if planted(Fault::XBeforeTest) {
+        x[..n].copy_from_slice(&new_x)
     }
+    let finite = |b: &[f32]| b.iter().all(|v| v.is_finite());
+    if !finite(&new_x) && !planted(Fault::POnly) || !finite(&new_p) && !planted(Fault::XOnly) {
+        return Err(Stop::NotFinite);
+    }
+    x[..n].copy_from_slice(&new_x);
+    p[..n * n].copy_from_slice(&new_p);
     Ok(())
 }
 
@@ -297,7 +314,7 @@ fn one_state_predict(yarn: &mut [f32]) {
 }
 
 /// The record after the reading z, by the general filter's steps for one state and one observation.
-fn one_state_correct(yarn: &mut [f32], z: f32) -> Result<(), (usize, f32)> {
+fn one_state_correct(yarn: &mut [f32], z: f32) -> Result<(), Stop> {
     let [x, p, _, _, h, r] = yarn else {
         panic!("six numbers")
     };
@@ -305,9 +322,9 @@ fn one_state_correct(yarn: &mut [f32], z: f32) -> Result<(), (usize, f32)> {
     innovation(1, 1, &[*x], &[*h], &[z], &mut y);
     let mut lent: Vec<Vec<f32>> = [*x, *p, *h, *r, y[0]].map(|v| vec![v]).into();
     lent.extend(vec![vec![0.0]; 6]);
-    update(1, 1, &mut lent)?;
+    let done = update(1, 1, &mut lent);
     (*x, *p) = (lent[0][0], lent[1][0]);
-    Ok(())
+    done
 }
 
 /// The answer of the rules, and the refused pivot if there is one.
@@ -328,7 +345,7 @@ pub fn answer(call: &Call) -> (Answer, Option<f32>) {
     let s = &call.sizes;
     let v = &call.scalars;
     let mut value = 0.0;
-    let mut pivot = Ok(());
+    let mut done = Ok(());
     let (row, column) = place(call);
     let (row, column) = (row.unwrap_or(0), column.unwrap_or(0));
     match (call.function, lent.as_mut_slice()) {
@@ -400,7 +417,7 @@ pub fn answer(call: &Call) -> (Answer, Option<f32>) {
         }
         (Recip, _) => value = recip(v[0]),
         (SquareRoot, _) => value = square_root(v[0]),
-        (CholeskyDecomposeLower, [t]) => pivot = decompose(s[0], t),
+        (CholeskyDecomposeLower, [t]) => done = decompose(s[0], t),
         (InvertLCholesky, [l, inv]) => invert(s[0], l, inv),
         (Predict, [x, a, p, q, predicted, temp]) => {
             predict_x(s[0], x, a, predicted);
@@ -413,33 +430,27 @@ pub fn answer(call: &Call) -> (Answer, Option<f32>) {
             if let [x, _, h, _, y, ..] = lent.as_mut_slice() {
                 innovation(s[0], s[1], x, h, &z, y)
             }
-            pivot = update(s[0], s[1], &mut lent);
+            done = update(s[0], s[1], &mut lent);
             lent.insert(3, z)
         }
         (Innovation, [x, h, z, y]) => innovation(s[0], s[1], x, h, z, y),
-        (UpdateWithInnovation, _) => pivot = update(s[0], s[1], &mut lent),
+        (UpdateWithInnovation, _) => done = update(s[0], s[1], &mut lent),
         (OneStatePredict, [yarn]) => one_state_predict(yarn),
-        (OneStateCorrect, [yarn]) => pivot = one_state_correct(yarn, v[0]),
+        (OneStateCorrect, [yarn]) => done = one_state_correct(yarn, v[0]),
         _ => panic!("{}: a wrong number of buffers", call.function.name()),
     }
-    match pivot {
-        Ok(()) => (
-            Answer {
-                number: 0,
-                carried: 0,
-                value,
-                lent,
-            },
-            None,
-        ),
-        Err((at, pivot)) => (
-            Answer {
-                number: 4,
-                carried: at as u32,
-                value,
-                lent,
-            },
-            Some(pivot),
-        ),
-    }
+    let (number, carried, pivot) = match done {
+        Ok(()) => (0, 0, None),
+        Err(Stop::Pivot(at, pivot)) => (4, at as u32, Some(pivot)),
+        Err(Stop::NotFinite) => (9, 0, None),
+    };
+    (
+        Answer {
+            number,
+            carried,
+            value,
+            lent,
+        },
+        pivot,
+    )
 }

@@ -144,6 +144,7 @@ pub fn answer(call: &Call) -> Result<(Tag, Answer), String> {
         4 if pivot == Some(f32::INFINITY) => Tag::InfinitePivot,
         4 if call.function == CholeskyDecomposeLower => Tag::Pivot,
         4 => Tag::Verdict,
+        9 => Tag::NotFinite,
         _ => match call.function {
             GetRowCopy if call.places[0] > 0 => Tag::RowCopy,
             SetAll | Clear | SetZero if call.lent[0].len() > call.sizes[0] * call.sizes[1] => {
@@ -153,6 +154,11 @@ pub fn answer(call: &Call) -> Result<(Tag, Answer), String> {
         },
     };
     let found = run(call);
+    match (tag, new_finite(call, &found.lent)) {
+        (Tag::Rust, Some(false)) => return Err("the original's new x or P is not finite".into()),
+        (Tag::NotFinite, Some(true)) => return Err("the original's new x and P are finite".into()),
+        _ => {}
+    }
     let answer = match (tag, call.function) {
         (Tag::RowCopy | Tag::Fill, _) => expected.clone(),
         (Tag::NanPivot | Tag::InfinitePivot, CholeskyDecomposeLower) => {
@@ -208,6 +214,16 @@ pub fn answer(call: &Call) -> Result<(Tag, Answer), String> {
                 ..expected
             }
         }
+        // The work buffers are the original's, which goes on to its end; x and P are as lent.
+        (Tag::NotFinite, OneStateCorrect) => Answer {
+            lent: call.lent.clone(),
+            ..expected
+        },
+        (Tag::NotFinite, _) => {
+            let mut lent = found.lent;
+            lent[..2].clone_from_slice(&call.lent[..2]);
+            Answer { lent, ..expected }
+        }
         _ => {
             let number = if found.verdict { 0 } else { 4 };
             // The verdict is a bool: the pivot's index is that of the rules' steps.
@@ -227,6 +243,26 @@ pub fn answer(call: &Call) -> Result<(Tag, Answer), String> {
         ));
     }
     Ok((tag, answer))
+}
+
+/// Whether the new x and P of a correction, of an update or of a record's correction are finite, as the
+/// original leaves them. What lies past n and n·n does not count.
+fn new_finite(call: &Call, found: &[Vec<f32>]) -> Option<bool> {
+    use Function::*;
+    let (x, p) = match call.function {
+        Correct | UpdateWithInnovation => {
+            let n = call.sizes[0];
+            (&found[0][..n], &found[1][..n * n])
+        }
+        OneStateCorrect => found[0][..2].split_at(1),
+        _ => return None,
+    };
+    Some(finite(x) && finite(p))
+}
+
+/// No NaN and no infinity.
+pub fn finite(b: &[f32]) -> bool {
+    b.iter().all(|v| v.is_finite())
 }
 
 /// Left of a pivot that the original lets pass, its columns and those of the rules' steps are the same,

@@ -1,12 +1,12 @@
-//! What the list rests on: the toolchain's empty sum, the checked examples of docs/RULES.md, and that
-//! the rules' steps and the original agree on lines of every function.
+//! What the list rests on: the toolchain's empty sum, the checked examples of docs/RULES.md, that the
+//! rules' steps and the original agree on lines of every function, and that lists have what they should.
 
-use crate::calls::{same, same_answer, Function, Tag, ALL};
+use crate::calls::{answer_bits, same, same_answer, Answer, Call, Function, Tag, ALL};
 use crate::examples;
 use crate::generate::{Calls, Plan};
 use crate::inputs::Random;
 use crate::model;
-use crate::original;
+use crate::original::{self, finite};
 use minikalman::matrix::MatrixDataType;
 use std::collections::BTreeSet;
 
@@ -137,6 +137,130 @@ pub fn run() -> bool {
         infinite.len() == 16 * 17 / 2,
         "1800 decompositions have a pivot of +infinity at each index of each size",
     );
+    for f in [Function::Correct, Function::UpdateWithInnovation] {
+        let seen = Seen::of(f);
+        let each = |what: &str| format!("{ROUND} lines of {}: {what}", f.name());
+        say(
+            seen.readings.len() == 3 * 136,
+            &each("a NaN and both infinities at each index of each m, all else finite"),
+        );
+        say(
+            seen.x_alone.len() == 136,
+            &each("a new x that is not finite at one index alone, at each of each n, and P finite"),
+        );
+        say(
+            (1..=16).all(|n| {
+                let has = |at: usize| seen.p_alone.contains(&(n, at));
+                has(n * n - 1) && has(0) && (n < 3 || has(1))
+            }),
+            &each("the same of P, in its last cell and in its first row, and x finite"),
+        );
+        say(
+            seen.gains.len() == 16 && seen.tails.len() == 16,
+            &each("for each n an infinite gain from a finite S; NaN or infinity past x and P, accepted"),
+        );
+        say(
+            !seen.taken,
+            &each("none is accepted whose x or P is not finite as lent"),
+        )
+    }
+    // The reading where it is not finite, else 1; whether the original's new x and p are finite.
+    let mut records = BTreeSet::new();
+    for call in Calls::new(Plan::Even, 20, &[Function::OneStateCorrect]).take(80) {
+        if let Ok((Tag::NotFinite, _)) = original::answer(&call) {
+            let z = Some(call.scalars[0]).filter(|z| !z.is_finite());
+            let found = original::run(&call).lent[0].clone();
+            let [x, p] = [0, 1].map(|i| found[i].is_finite());
+            records.insert((answer_bits(z.unwrap_or(1.0)), x, p));
+        }
+    }
+    let readings = [f32::NAN, f32::INFINITY, f32::NEG_INFINITY].map(|z| (z, false, true));
+    say(
+        readings
+            .into_iter()
+            .chain([(1.0, false, true), (1.0, true, false)])
+            .all(|(z, x, p)| records.contains(&(answer_bits(z), x, p))),
+        "80 records are refused for z = NaN and both infinities, for x alone and for p alone",
+    );
     println!("{passed} passed, {failed} failed");
     failed == 0
+}
+
+/// So many lines hold a round of what corrections and updates are asked for: 759 lines, one in ten of those
+/// not refused with 1 or 2.
+const ROUND: usize = 8860;
+
+/// What a round shows. All but the numbers named are finite as lent.
+#[derive(Default)]
+struct Seen {
+    /// m, the index, and which: NaN or the sign.
+    readings: BTreeSet<(usize, usize, u32)>,
+    /// n and the index.
+    x_alone: BTreeSet<(usize, usize)>,
+    p_alone: BTreeSet<(usize, usize)>,
+    /// n alone.
+    gains: BTreeSet<usize>,
+    tails: BTreeSet<usize>,
+    /// An x or P that is not finite as lent was accepted.
+    taken: bool,
+}
+
+impl Seen {
+    fn of(f: Function) -> Seen {
+        let mut seen = Seen::default();
+        for call in Calls::new(Plan::Even, 20, &[f]).take(ROUND) {
+            match original::answer(&call) {
+                Ok((tag, answer)) if model::gate(&call).is_none() => seen.add(&call, tag, &answer),
+                _ => {}
+            }
+        }
+        seen
+    }
+
+    fn add(&mut self, call: &Call, tag: Tag, answer: &Answer) {
+        let (n, m) = (call.sizes[0], call.sizes[1]);
+        let needs = call.function.needs(&call.sizes);
+        // x, P, H, z, R and then y, S, K of a correction; x, P, H, R, y and then S, K of an update
+        let (read, s, k) = match call.function {
+            Function::Correct => (3, 6, 7),
+            _ => (4, 5, 6),
+        };
+        let lent: Vec<&[f32]> = (0..5).map(|b| &call.lent[b][..needs[b]]).collect();
+        let bad: Vec<usize> = (0..5).filter(|b| !finite(lent[*b])).collect();
+        if tag == Tag::Rust {
+            self.taken |= bad.contains(&0) || bad.contains(&1);
+            let tail = |b: usize| !finite(&call.lent[b][needs[b]..]);
+            if bad.is_empty() && tail(0) && tail(1) {
+                self.tails.insert(n);
+            }
+        }
+        if tag != Tag::NotFinite {
+            return;
+        }
+        if bad == [read] {
+            if let Some(i) = alone(lent[read]) {
+                self.readings.insert((m, i, answer_bits(lent[read][i])));
+            }
+        }
+        if !bad.is_empty() {
+            return;
+        }
+        let found = original::run(call).lent;
+        let (x, p) = (&found[0][..n], &found[1][..n * n]);
+        match (alone(x), alone(p)) {
+            (Some(j), None) if finite(p) => self.x_alone.insert((n, j)),
+            (None, Some(at)) if finite(x) => self.p_alone.insert((n, at)),
+            _ => false,
+        };
+        let (s, k) = (&answer.lent[s][..m * m], &answer.lent[k][..n * m]);
+        if finite(s) && !finite(k) {
+            self.gains.insert(n);
+        }
+    }
+}
+
+/// Where the only number that is not finite is.
+fn alone(b: &[f32]) -> Option<usize> {
+    let mut all = (0..b.len()).filter(|i| !b[*i].is_finite());
+    all.next().filter(|_| all.next().is_none())
 }

@@ -26,7 +26,9 @@ pub fn innovation(n: usize, m: usize, x: &[f32], h: &[f32], z: &[f32], y: &mut [
 /// `x = x + K·y` and `P = P − K·H·P`, with the gain `K = P·Hᵀ·S⁻¹` of `S = H·P·Hᵀ + R`; S ends as the
 /// lower factor of that sum.
 ///
-/// `Pivot` leaves x, P, K, temp_S_inv, temp_PHt and temp_KHP as lent.
+/// `Pivot` leaves x, P, K, temp_S_inv, temp_PHt and temp_KHP as lent. `NotFinite`, where some entry of the
+/// new x or P is an infinity or a NaN, leaves x and P as lent and the rest as the accepted call would. An
+/// infinity or a NaN in y is always refused so, unless a pivot is refused first.
 ///
 /// Sizes are n, m; buffers are x, P, H, R, y, S, K, temp_S_inv, temp_HP, temp_PHt, temp_KHP.
 #[allow(clippy::too_many_arguments)]
@@ -78,7 +80,10 @@ pub fn update(
 
 /// [`innovation`], and then [`update`] from it.
 ///
-/// `Pivot` leaves x, P, K, temp_S_inv, temp_PHt and temp_KHP as lent.
+/// `Pivot` leaves x, P, K, temp_S_inv, temp_PHt and temp_KHP as lent. `NotFinite`, where some entry of the
+/// new x or P is an infinity or a NaN, leaves x and P as lent and the rest as the accepted call would. The
+/// readings do not enter S, so no pivot tells a bad one: an infinity or a NaN in z is always refused with
+/// `NotFinite`, unless a pivot is refused first.
 ///
 /// Sizes are n, m; buffers are x, P, H, z, R, y, S, K, temp_S_inv, temp_HP, temp_PHt, temp_KHP.
 #[allow(clippy::too_many_arguments)]

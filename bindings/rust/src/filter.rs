@@ -97,6 +97,9 @@ impl<const N: usize> Filter<N> {
     }
 
     /// `x = A·x` and `P = A·P·Aᵀ + Q`. Nothing can be refused: sizes and buffers fit by their types.
+    ///
+    /// Nor is x or P tested for what is not finite. After an overflow every correction is refused, with
+    /// `Pivot` or `NotFinite`, until x and P are set anew.
     pub fn predict(&mut self) {
         predict(
             N,
@@ -110,8 +113,12 @@ impl<const N: usize> Filter<N> {
         .expect("sizes and buffers fit by their types");
     }
 
-    /// x and P as the observation's reading moves them, or `Pivot(i)`, the only refusal there is: then
-    /// x and P are as before.
+    /// x and P as the observation's reading moves them, or one of two refusals: then x and P are as
+    /// before.
+    ///
+    /// - `Pivot(i)`: pivot i of S is not above zero, or not finite.
+    /// - `NotFinite`: some entry of the new x or P is an infinity or a NaN, as it always is where a reading
+    ///   is one.
     pub fn correct<const M: usize>(&mut self, seen: &mut Observation<N, M>) -> Result<(), Refusal> {
         correct(
             N,
@@ -269,8 +276,8 @@ impl<const N: usize, const M: usize> Observation<N, M> {
         &self.y
     }
 
-    /// The gain of the last correction that was accepted, K. A refused one leaves it as it was; before
-    /// the first it is 0.
+    /// The gain of the last correction, K, whether it was accepted or refused with `NotFinite`. One that was
+    /// refused with `Pivot` leaves it as it was; before the first it is 0.
     pub fn kalman_gain(&self) -> &[[f32; M]; N] {
         &self.k
     }
@@ -278,7 +285,8 @@ impl<const N: usize, const M: usize> Observation<N, M> {
     /// The lower factor L of the spread of the innovation: S = L·Lᵀ, and not S itself. S is H·P·Hᵀ + R
     /// with the P from before the correction.
     ///
-    /// - After an accepted correction it is L, with +0 above the diagonal.
+    /// - After an accepted correction, and after one that was refused with `NotFinite`, it is L, with +0
+    ///   above the diagonal.
     /// - After one that was refused with `Pivot(i)` it is no factor: from the diagonal down, the columns
     ///   before i are those of L; (i, i) is the refused pivot times the reciprocal of the root before it
     ///   (times +0 where i is 0); every other cell is that of S.

@@ -2,7 +2,8 @@
 
 use crate::{answer, sys, Refusal};
 
-/// `x = a·x` and `p = a·p·a + q` in the record x, p, a, q, h, r. Buffer 0 is the record.
+/// `x = a·x` and `p = a·p·a + q` in the record x, p, a, q, h, r. What is not finite is not refused here, as
+/// in [`predict`](crate::predict). Buffer 0 is the record.
 pub fn one_state_predict(record: &mut [f32]) -> Result<(), Refusal> {
     // SAFETY: a slice is valid for its length, and one that is written overlaps no other.
     answer(unsafe { sys::yurgamysh_one_state_predict(record.as_mut_ptr(), record.len()) })
@@ -10,7 +11,8 @@ pub fn one_state_predict(record: &mut [f32]) -> Result<(), Refusal> {
 
 /// x and p of the record x, p, a, q, h, r as the reading z moves them.
 ///
-/// `Pivot(0)` leaves the record as lent. Buffer 0 is the record.
+/// `Pivot(0)` leaves the record as lent, and so does `NotFinite`, where the new x or p is an infinity or a
+/// NaN; so is x wherever z is one. Buffer 0 is the record.
 pub fn one_state_correct(record: &mut [f32], z: f32) -> Result<(), Refusal> {
     // SAFETY: a slice is valid for its length, and one that is written overlaps no other.
     answer(unsafe { sys::yurgamysh_one_state_correct(record.as_mut_ptr(), record.len(), z) })
@@ -34,14 +36,14 @@ pub struct OneState {
 }
 
 impl OneState {
-    /// The record with x and p as the model moves them.
+    /// The record with x and p as the model moves them. What is not finite is not refused here.
     pub fn predict(self) -> OneState {
         let mut record = self.into_record();
         one_state_predict(&mut record).expect("six numbers are enough");
         OneState::from_record(record)
     }
 
-    /// The record with x and p as the reading z moves them, or `Pivot(0)`.
+    /// The record with x and p as the reading z moves them, or `Pivot(0)`, or `NotFinite`.
     ///
     /// ```
     /// use yurgamysh::{OneState, Refusal};
@@ -52,6 +54,7 @@ impl OneState {
     ///
     /// let bad = OneState { p: -3.0, ..yarn };
     /// assert_eq!(bad.correct(5.0), Err(Refusal::Pivot(0)));
+    /// assert_eq!(yarn.correct(f32::NAN), Err(Refusal::NotFinite));
     /// # Ok::<(), Refusal>(())
     /// ```
     pub fn correct(self, z: f32) -> Result<OneState, Refusal> {

@@ -4,6 +4,9 @@ use crate::{answer, sys, Refusal};
 
 /// `x = A·x` and `P = A·P·Aᵀ + Q`. `predicted_x` ends as the new x, `temp_p` as `A·P`.
 ///
+/// What is not finite is not refused here: after an overflow every correction is, with `Pivot` or
+/// `NotFinite`, until x and P are set anew.
+///
 /// Size 0 is n; buffers are x, A, P, Q, predicted_x, temp_P.
 pub fn predict(
     n: usize,

@@ -13,6 +13,9 @@ pub enum Refusal {
     Range(usize),
     /// This pivot, the first such, is not above zero, or not finite, NaN included. x and P are as lent.
     Pivot(usize),
+    /// Some entry of the new x or P is not finite, an infinity or a NaN. x and P are as lent, and every
+    /// other buffer as the accepted call would leave it.
+    NotFinite,
 }
 
 impl fmt::Display for Refusal {
@@ -23,6 +26,7 @@ impl fmt::Display for Refusal {
             Refusal::Range(0) => write!(f, "the row is out of range"),
             Refusal::Range(_) => write!(f, "the column is out of range"),
             Refusal::Pivot(i) => write!(f, "pivot {i} is not above zero, or not finite"),
+            Refusal::NotFinite => write!(f, "some entry of the new x or P is not finite"),
         }
     }
 }
@@ -38,6 +42,7 @@ pub(crate) fn answer(code: usize) -> Result<(), Refusal> {
         2 => Err(Refusal::Short(carried)),
         3 => Err(Refusal::Range(carried)),
         4 => Err(Refusal::Pivot(carried)),
+        9 => Err(Refusal::NotFinite),
         _ => unreachable!("the library answers no {code}"),
     }
 }

@@ -101,10 +101,14 @@ fn innovation_of_a_reading() {
     each_size(&[2, 1], |s| call(s, &[2, 2, 1, 1]));
 }
 
-/// The written buffers of a correction of two states by one reading, each with a tail.
+/// The buffers of a correction of two states by one reading, each with a tail.
+#[derive(Clone)]
 struct Room {
     x: Vec<f32>,
     p: Vec<f32>,
+    h: Vec<f32>,
+    z: Vec<f32>,
+    r: Vec<f32>,
     y: Vec<f32>,
     s: Vec<f32>,
     k: Vec<f32>,
@@ -114,13 +118,14 @@ struct Room {
     khp: Vec<f32>,
 }
 
-const H: [f32; 2] = [1.0, 2.0];
-
 /// S is 24 + R: with R = 40 it is 64, its root 8, and every number below is exact.
 fn room() -> Room {
     Room {
         x: lent(&[3.0, 2.0]),
         p: lent(&[4.0, 2.0, 2.0, 3.0]),
+        h: lent(&[1.0, 2.0]),
+        z: lent(&[17.0]),
+        r: lent(&[40.0]),
         y: lent(&[10.0]),
         s: lent(&[0.5]),
         k: lent(&[0.25; 2]),
@@ -131,38 +136,51 @@ fn room() -> Room {
     }
 }
 
+/// The same with this R.
+fn noisy(r: f32) -> Room {
+    Room { r: lent(&[r]), ..room() }
+}
+
 /// What an update from y = 10 leaves: S = 8 + 16 + 40, K = [8 8]/64.
-fn is_corrected(r: &Room) {
-    assert_eq!(r.hp, [8.0, 8.0, TAIL]);
-    assert_eq!(r.s, [8.0, TAIL]);
-    assert_eq!(r.s_inv, [0.015625, TAIL]);
-    assert_eq!(r.pht, [8.0, 8.0, TAIL]);
-    assert_eq!(r.k, [0.125, 0.125, TAIL]);
-    assert_eq!(r.x, [4.25, 3.25, TAIL]);
-    assert_eq!(r.khp, [1.0, 1.0, 1.0, 1.0, TAIL]);
-    assert_eq!(r.p, [3.0, 1.0, 1.0, 2.0, TAIL]);
-    assert_eq!(r.y, [10.0, TAIL]);
+fn corrected() -> Room {
+    Room {
+        x: lent(&[4.25, 3.25]),
+        p: lent(&[3.0, 1.0, 1.0, 2.0]),
+        s: lent(&[8.0]),
+        k: lent(&[0.125; 2]),
+        s_inv: lent(&[0.015625]),
+        hp: lent(&[8.0; 2]),
+        pht: lent(&[8.0; 2]),
+        khp: lent(&[1.0; 4]),
+        ..room()
+    }
 }
 
-/// What a refused pivot leaves, where S has the pivot times +0: −0 of S = 24 − 100, NaN of 24 + ∞.
-fn is_refused(r: &Room, pivot: f32) {
-    let before = room();
-    assert_eq!((&r.x, &r.p, &r.k), (&before.x, &before.p, &before.k));
-    assert_eq!((&r.s_inv, &r.pht, &r.khp), (&before.s_inv, &before.pht, &before.khp));
-    assert_eq!(r.y, [10.0, TAIL]);
-    assert_eq!(r.hp, [8.0, 8.0, TAIL]);
-    assert!(r.s[0].to_bits() == pivot.to_bits() || r.s[0].is_nan() && pivot.is_nan());
-    assert_eq!(r.s[1..], [TAIL]);
+/// What a refused pivot leaves of these buffers, where S has the pivot times +0: −0 of S = 24 − 100, NaN
+/// of 24 + ∞.
+fn refused(before: &Room, pivot: f32) -> Room {
+    Room { s: lent(&[pivot]), hp: lent(&[8.0; 2]), ..before.clone() }
 }
 
-fn update_room(sizes: &[usize], l: &[usize], noise: f32, b: &mut Room) -> Result<(), Refusal> {
+/// The same numbers to the bit; any NaN for a NaN, but in x and P.
+fn same_room(found: &Room, want: &Room) {
+    let bits = |numbers: &[f32]| numbers.iter().map(|v| v.to_bits()).collect::<Vec<_>>();
+    assert_eq!((bits(&found.x), bits(&found.p)), (bits(&want.x), bits(&want.p)));
+    let any_nan = |numbers: &[f32]| numbers.iter().map(|v| (!v.is_nan()).then_some(v.to_bits())).collect();
+    let rest = |r: &Room| -> [Vec<Option<u32>>; 10] {
+        [&r.h, &r.z, &r.r, &r.y, &r.s, &r.k, &r.s_inv, &r.hp, &r.pht, &r.khp].map(|numbers| any_nan(numbers))
+    };
+    assert_eq!(rest(found), rest(want));
+}
+
+fn update_room(sizes: &[usize], l: &[usize], b: &mut Room) -> Result<(), Refusal> {
     update(
         sizes[0],
         sizes[1],
         &mut b.x[..l[0]],
         &mut b.p[..l[1]],
-        &H[..l[2]],
-        &[noise][..l[3]],
+        &b.h[..l[2]],
+        &b.r[..l[3]],
         &b.y[..l[4]],
         &mut b.s[..l[5]],
         &mut b.k[..l[6]],
@@ -173,15 +191,15 @@ fn update_room(sizes: &[usize], l: &[usize], noise: f32, b: &mut Room) -> Result
     )
 }
 
-fn correct_room(sizes: &[usize], l: &[usize], noise: f32, b: &mut Room) -> Result<(), Refusal> {
+fn correct_room(sizes: &[usize], l: &[usize], b: &mut Room) -> Result<(), Refusal> {
     correct(
         sizes[0],
         sizes[1],
         &mut b.x[..l[0]],
         &mut b.p[..l[1]],
-        &H[..l[2]],
-        &[17.0][..l[3]],
-        &[noise][..l[4]],
+        &b.h[..l[2]],
+        &b.z[..l[3]],
+        &b.r[..l[4]],
         &mut b.y[..l[5]],
         &mut b.s[..l[6]],
         &mut b.k[..l[7]],
@@ -192,41 +210,115 @@ fn correct_room(sizes: &[usize], l: &[usize], noise: f32, b: &mut Room) -> Resul
     )
 }
 
-#[test]
-fn update_from_an_innovation() {
-    let needs = [2, 4, 2, 1, 1, 1, 2, 1, 2, 2, 4];
-    let whole = [3, 5, 2, 1, 2, 2, 3, 2, 3, 3, 5];
-    let mut done = room();
-    assert_eq!(update_room(&[2, 1], &whole, 40.0, &mut done), Ok(()));
-    is_corrected(&done);
-    let mut refused = room();
-    assert_eq!(update_room(&[2, 1], &whole, -100.0, &mut refused), Err(Refusal::Pivot(0)));
-    is_refused(&refused, -0.0);
-    let mut broken = room();
-    assert_eq!(update_room(&[2, 1], &whole, f32::INFINITY, &mut broken), Err(Refusal::Pivot(0)));
-    is_refused(&broken, f32::NAN);
-    each_short(&needs, |l| update_room(&[2, 1], l, 40.0, &mut room()));
-    each_size(&[2, 1], |s| update_room(s, &needs, 40.0, &mut room()));
+/// The lengths of the matrices; each buffer has one more.
+const UPDATE: [usize; 11] = [2, 4, 2, 1, 1, 1, 2, 1, 2, 2, 4];
+const CORRECT: [usize; 12] = [2, 4, 2, 1, 1, 1, 1, 2, 1, 2, 2, 4];
+
+/// The correction, and the update from its y, give this answer and leave every number so.
+fn both(before: &Room, answer: Result<(), Refusal>, after: &Room) {
+    let mut b = Room { y: lent(&[0.0]), ..before.clone() };
+    assert_eq!(correct_room(&[2, 1], &CORRECT.map(|l| l + 1), &mut b), answer);
+    same_room(&b, after);
+    let mut b = Room { y: after.y.clone(), ..before.clone() };
+    assert_eq!(update_room(&[2, 1], &UPDATE.map(|l| l + 1), &mut b), answer);
+    same_room(&b, after);
 }
 
 #[test]
-fn correction_by_a_reading() {
-    let needs = [2, 4, 2, 1, 1, 1, 1, 2, 1, 2, 2, 4];
-    let whole = [3, 5, 2, 1, 1, 2, 2, 3, 2, 3, 3, 5];
-    let mut done = room();
-    done.y[0] = 0.0;
-    assert_eq!(correct_room(&[2, 1], &whole, 40.0, &mut done), Ok(()));
-    is_corrected(&done);
-    let mut refused = room();
-    refused.y[0] = 0.0;
-    assert_eq!(correct_room(&[2, 1], &whole, -100.0, &mut refused), Err(Refusal::Pivot(0)));
-    is_refused(&refused, -0.0);
-    let mut broken = room();
-    broken.y[0] = 0.0;
-    assert_eq!(correct_room(&[2, 1], &whole, f32::INFINITY, &mut broken), Err(Refusal::Pivot(0)));
-    is_refused(&broken, f32::NAN);
-    each_short(&needs, |l| correct_room(&[2, 1], l, 40.0, &mut room()));
-    each_size(&[2, 1], |s| correct_room(s, &needs, 40.0, &mut room()));
+fn a_correction_and_an_update() {
+    both(&room(), Ok(()), &corrected());
+    for (r, pivot) in [(-100.0, -0.0), (f32::INFINITY, f32::NAN), (f32::NAN, f32::NAN)] {
+        both(&noisy(r), Err(Refusal::Pivot(0)), &refused(&noisy(r), pivot));
+    }
+    each_short(&UPDATE, |l| update_room(&[2, 1], l, &mut room()));
+    each_size(&[2, 1], |s| update_room(s, &UPDATE, &mut room()));
+    each_short(&CORRECT, |l| correct_room(&[2, 1], l, &mut room()));
+    each_size(&[2, 1], |s| correct_room(s, &CORRECT, &mut room()));
+}
+
+/// What is not finite and may arrive as a reading.
+const BAD: [f32; 3] = [f32::NAN, f32::INFINITY, f32::NEG_INFINITY];
+
+/// A bad reading leaves x and P as lent, and the rest as a good one does, but for y.
+#[test]
+fn a_reading_that_is_not_finite() {
+    for z in BAD {
+        let bad = Room { z: lent(&[z]), ..room() };
+        let left = Room { x: room().x, p: room().p, z: lent(&[z]), y: lent(&[z]), ..corrected() };
+        both(&bad, Err(Refusal::NotFinite), &left);
+        // A pivot is told first, and a size or a short buffer before it.
+        let worse = Room { r: lent(&[-100.0]), y: lent(&[z]), ..bad.clone() };
+        both(&worse, Err(Refusal::Pivot(0)), &refused(&worse, -0.0));
+        assert_eq!(correct_room(&[2, 1], &[2; 12], &mut bad.clone()), Err(Refusal::Short(1)));
+        assert_eq!(correct_room(&[2, 17], &CORRECT, &mut bad.clone()), Err(Refusal::Size(1)));
+        assert_eq!(update_room(&[2, 1], &[2; 11], &mut worse.clone()), Err(Refusal::Short(1)));
+        assert_eq!(update_room(&[2, 17], &UPDATE, &mut worse.clone()), Err(Refusal::Size(1)));
+    }
+}
+
+/// x overflows and P does not: y is MAX/2 and K = 2, where P would be [0 0; 0 3].
+#[test]
+fn an_estimate_that_overflows() {
+    let before = Room {
+        x: lent(&[f32::MAX, 2.0]),
+        p: lent(&[4.0, 0.0, 0.0, 3.0]),
+        h: lent(&[0.5, 0.0]),
+        z: lent(&[f32::MAX]),
+        r: lent(&[0.0]),
+        ..room()
+    };
+    let left = Room {
+        y: lent(&[f32::MAX / 2.0]),
+        s: lent(&[1.0]),
+        k: lent(&[2.0, 0.0]),
+        s_inv: lent(&[1.0]),
+        hp: lent(&[2.0, 0.0]),
+        pht: lent(&[2.0, 0.0]),
+        khp: lent(&[4.0, 0.0, 0.0, 0.0]),
+        ..before.clone()
+    };
+    both(&before, Err(Refusal::NotFinite), &left);
+    // The largest number is finite.
+    let z = lent(&[f32::MAX / 2.0]);
+    let after = Room { z: z.clone(), y: lent(&[0.0]), p: lent(&[0.0, 0.0, 0.0, 3.0]), ..left };
+    both(&Room { z, ..before }, Ok(()), &after);
+}
+
+/// P overflows and x does not: the first state has much in common with the second, the one that is seen.
+/// x would be [2^100 3].
+#[test]
+fn a_spread_that_overflows() {
+    let (large, gain) = (2f32.powi(100), 2f32.powi(98));
+    let before = Room {
+        p: lent(&[1.0, large, large, 1.0]),
+        h: lent(&[0.0, 1.0]),
+        z: lent(&[6.0]),
+        r: lent(&[3.0]),
+        ..room()
+    };
+    let left = Room {
+        y: lent(&[4.0]),
+        s: lent(&[2.0]),
+        k: lent(&[gain, 0.25]),
+        s_inv: lent(&[0.25]),
+        hp: lent(&[large, 1.0]),
+        pht: lent(&[large, 1.0]),
+        khp: lent(&[f32::INFINITY, gain, gain, 0.25]),
+        ..before.clone()
+    };
+    both(&before, Err(Refusal::NotFinite), &left);
+}
+
+/// What lies past the matrices does not count, and stays.
+#[test]
+fn what_is_not_finite_past_the_matrices() {
+    for tail in [f32::from_bits(0x7fc1_2345), f32::INFINITY] {
+        let with_tails = |r: Room| {
+            let tailed = |numbers: Vec<f32>| [&numbers[..numbers.len() - 1], &[tail]].concat();
+            Room { x: tailed(r.x), p: tailed(r.p), z: tailed(r.z), k: tailed(r.k), khp: tailed(r.khp), ..r }
+        };
+        both(&with_tails(room()), Ok(()), &with_tails(corrected()));
+    }
 }
 
 #[test]
@@ -439,6 +531,28 @@ fn records() {
         assert_eq!(one_state_correct(&mut record, 5.0), Err(Refusal::Pivot(0)));
         assert_eq!(record, before);
     }
+    // Bad readings; x alone and p alone overflow; the largest x; a pivot first.
+    let (good, far) = ([1.0, 3.0, 5.0, 7.0, 1.0, 1.0], [f32::MAX, 4.0, 5.0, 7.0, 0.5, 0.0]);
+    let wide = [1.0, 2f32.powi(126), 5.0, 7.0, 1.0, 2f32.powi(102) - 2f32.powi(126)];
+    let not_finite = [(good, BAD[0]), (good, BAD[1]), (good, BAD[2]), (far, f32::MAX), (wide, 1.0)];
+    for (numbers, z) in not_finite {
+        let mut record = lent(&numbers);
+        assert_eq!(one_state_correct(&mut record, z), Err(Refusal::NotFinite));
+        assert_eq!(record, lent(&numbers));
+        record[1] = -record[1];
+        record[5] = -1.0;
+        let before = record.clone();
+        assert_eq!(one_state_correct(&mut record, z), Err(Refusal::Pivot(0)));
+        assert_eq!(record, before);
+    }
+    let mut record = lent(&far);
+    one_state_correct(&mut record, f32::MAX / 2.0).unwrap();
+    assert_eq!(record, lent(&[f32::MAX, 0.0, 5.0, 7.0, 0.5, 0.0]));
+    // Only the new x and p count: not a, not q, and not what lies past the record.
+    let mut record = [1.0, 3.0, f32::NAN, f32::INFINITY, 1.0, 1.0, f32::NAN];
+    one_state_correct(&mut record, 5.0).unwrap();
+    assert_eq!((record[0], record[1], record[3..6].to_vec()), (4.0, 0.75, vec![f32::INFINITY, 1.0, 1.0]));
+    assert!(record[2].is_nan() && record[6].is_nan());
     each_short(&[6], |l| one_state_correct(&mut [1.0; 6][..l[0]], 5.0));
 }
 

@@ -109,6 +109,156 @@ fn a_refused_correction_leaves_x_and_p() {
     assert_ne!(bits(&f), before);
 }
 
+/// What is not finite and may arrive as a reading.
+const BAD: [f32; 3] = [f32::NAN, f32::INFINITY, f32::NEG_INFINITY];
+
+fn is_finite<const N: usize>(f: &Filter<N>) -> bool {
+    f.state_vector().iter().chain(f.estimate_covariance().as_flattened()).all(|v| v.is_finite())
+}
+
+/// Each of the readings in turn is bad. K and the factor of S are those of a good reading; y tells which
+/// one it was; and the filter goes on as if the correction had not been asked for.
+#[test]
+fn a_reading_that_is_not_finite_leaves_x_and_p() {
+    let (mut good, mut seen) = (filter(), observation());
+    good.correct(&mut seen).unwrap();
+    for (i, z) in (0..3).flat_map(|i| BAD.map(|z| (i, z))) {
+        let (mut f, mut o) = (filter(), observation());
+        o.measurement_vector_mut()[i] = z;
+        for _ in 0..2 {
+            assert_eq!(f.correct(&mut o), Err(Refusal::NotFinite));
+            assert_eq!(bits(&f), bits(&filter()));
+            assert_eq!(f.correct_with(&mut o, |_| ()), Err(Refusal::NotFinite));
+            assert_eq!(bits(&f), bits(&filter()));
+        }
+        assert_eq!(o.kalman_gain(), seen.kalman_gain());
+        assert_eq!(o.innovation_covariance_factor(), seen.innovation_covariance_factor());
+        for j in 0..3 {
+            let (y, want) = (o.innovation_vector()[j], seen.innovation_vector()[j]);
+            assert!(if j == i { y == z || y.is_nan() && z.is_nan() } else { y == want });
+        }
+        // An innovation that is put right is taken.
+        f.clone().correct_with(&mut o, |y| y[i] = 0.0).unwrap();
+        *o.measurement_vector_mut() = *observation().measurement_vector();
+        f.correct(&mut o).unwrap();
+        assert_eq!(bits(&f), bits(&good));
+        // And one that is spoilt by its fix is not.
+        assert_eq!(f.correct_with(&mut o, |y| y[i] = z), Err(Refusal::NotFinite));
+        assert_eq!(bits(&f), bits(&good));
+    }
+}
+
+/// A spread that overflows where the estimate does not, and an estimate where the spread does not.
+#[test]
+fn a_correction_that_overflows_leaves_x_and_p() {
+    let large = 2f32.powi(100);
+    let mut f = filter().with_estimate_covariance([[1.0, large], [large, 1.0]]);
+    let mut o = Observation::<2, 1>::new()
+        .with_observation_matrix([[0.0, 1.0]])
+        .with_measurement_noise_covariance([[3.0]])
+        .with_measurement_vector([6.0]);
+    let before = bits(&f);
+    assert_eq!(f.correct(&mut o), Err(Refusal::NotFinite));
+    assert_eq!(bits(&f), before);
+    assert_eq!(o.kalman_gain(), &[[2f32.powi(98)], [0.25]]);
+    assert_eq!((o.innovation_vector(), o.innovation_covariance_factor()), (&[4.0], &[[2.0]]));
+
+    let mut f =
+        filter().with_state_vector([f32::MAX, 2.0]).with_estimate_covariance([[4.0, 0.0], [0.0, 3.0]]);
+    let mut o =
+        Observation::<2, 1>::new().with_observation_matrix([[0.5, 0.0]]).with_measurement_vector([f32::MAX]);
+    let before = bits(&f);
+    assert_eq!(f.correct(&mut o), Err(Refusal::NotFinite));
+    assert_eq!(bits(&f), before);
+    o.measurement_vector_mut()[0] /= 2.0;
+    assert_eq!(f.correct(&mut o), Ok(()));
+    assert_eq!((f.state_vector(), f.estimate_covariance()), (&[f32::MAX, 2.0], &[[0.0, 0.0], [0.0, 3.0]]));
+}
+
+/// A prediction that overflows is done, and from then on every correction is refused, whatever the
+/// readings and the predictions between, until x and P are set anew.
+#[test]
+fn a_filter_that_a_prediction_spoilt() {
+    let x_far = filter().with_state_vector([f32::MAX, f32::MAX]);
+    let p_far = filter().with_estimate_covariance([[f32::MAX, 1.0], [1.0, f32::MAX]]);
+    for (mut f, refusal) in [(x_far, Refusal::NotFinite), (p_far, Refusal::Pivot(0))] {
+        let mut o = observation();
+        assert!(is_finite(&f));
+        f.predict();
+        for step in 0..50 {
+            assert!(!is_finite(&f));
+            let before = bits(&f);
+            *o.measurement_vector_mut() = [step as f32, -3.0, if step % 9 == 0 { f32::NAN } else { 11.0 }];
+            assert_eq!(f.correct(&mut o), Err(refusal));
+            assert_eq!(f.correct_with(&mut o, |y| *y = [0.0; 3]), Err(refusal));
+            assert_eq!(bits(&f), before);
+            // A model that forgets does not forget this: 0·∞ is NaN.
+            *f.state_transition_mut() = if step % 2 == 0 { [[0.0; 2]; 2] } else { [[0.5, 0.0], [0.0, 0.5]] };
+            f.predict();
+        }
+        *f.state_vector_mut() = [3.0, 2.0];
+        *f.estimate_covariance_mut() = [[2.0, 1.0], [1.0, 3.0]];
+        *o.measurement_vector_mut() = *observation().measurement_vector();
+        assert_eq!(f.correct(&mut o), Ok(()));
+        assert!(is_finite(&f));
+    }
+}
+
+/// A night of readings with bad ones among them: each is refused and no other is, x and P are finite all
+/// along, and end as if the bad ones had not been there. The record goes the same way.
+#[test]
+fn a_night_with_bad_readings() {
+    let (mut f, mut o) = (filter(), observation());
+    let (mut without, mut seen) = (filter(), observation());
+    let mut yarn = OneState { x: 35.0, p: 4.0, a: 1.0, q: 0.05, h: 1.0, r: 2.0 };
+    let (mut yarn_without, mut bad) = (yarn, 0);
+    for step in 0..300 {
+        for filter in [&mut f, &mut without] {
+            *filter.state_transition_mut() = [[0.9, 0.1], [0.0, 0.9]];
+            filter.predict();
+        }
+        (yarn, yarn_without) = (yarn.predict(), yarn_without.predict());
+        let tension = 35.0 + (step % 7) as f32 * 0.25;
+        let readings = [tension, -3.0 + (step % 5) as f32, 11.0];
+        *o.measurement_vector_mut() = readings;
+        if step % 11 == 3 {
+            let z = BAD[bad % 3];
+            o.measurement_vector_mut()[step % 3] = z;
+            assert_eq!(f.correct(&mut o), Err(Refusal::NotFinite));
+            assert_eq!(yarn.correct(z), Err(Refusal::NotFinite));
+            bad += 1;
+        } else {
+            *seen.measurement_vector_mut() = readings;
+            assert_eq!((f.correct(&mut o), without.correct(&mut seen)), (Ok(()), Ok(())));
+            yarn = yarn.correct(tension).unwrap();
+            yarn_without = yarn_without.correct(tension).unwrap();
+        }
+        assert!(is_finite(&f) && yarn.x.is_finite() && yarn.p.is_finite());
+    }
+    assert_eq!((bad, bits(&f), yarn), (27, bits(&without), yarn_without));
+    assert!((35.0..37.0).contains(&yarn.x));
+}
+
+/// Of 16 states and 16 readings any one may be the bad one.
+#[test]
+fn one_bad_reading_of_sixteen() {
+    for (i, z) in (0..16).flat_map(|i| BAD.map(|z| (i, z))) {
+        let mut f = Filter::<16>::new();
+        let mut o = Observation::<16, 16>::new();
+        for j in 0..16 {
+            f.estimate_covariance_mut()[j][j] = 3.0;
+            o.observation_matrix_mut()[j][j] = 1.0;
+            o.measurement_noise_covariance_mut()[j][j] = 1.0;
+        }
+        o.measurement_vector_mut()[i] = z;
+        let before = f.clone();
+        assert_eq!(f.correct(&mut o), Err(Refusal::NotFinite));
+        assert_eq!(f.state_vector(), before.state_vector());
+        assert_eq!(f.estimate_covariance(), before.estimate_covariance());
+        assert_eq!(o.kalman_gain()[i][i], 0.75);
+    }
+}
+
 /// y, K and the factor of S as whoever rejects far readings finds them: before any correction, after one
 /// that was accepted and after one that was refused.
 #[test]
@@ -238,6 +388,7 @@ fn refusals_in_words() {
         (Refusal::Range(0), "the row is out of range"),
         (Refusal::Range(1), "the column is out of range"),
         (Refusal::Pivot(2), "pivot 2 is not above zero, or not finite"),
+        (Refusal::NotFinite, "some entry of the new x or P is not finite"),
     ];
     for (refusal, text) in words {
         assert_eq!(refusal.to_string(), text);

@@ -4,12 +4,13 @@ use mathlib.Core.Path.{_≡_, refl, sym, ap, _∙_, subst}
 use mathlib.Core.Logic.{_⊎_, inl, inr, ⊎-elim}
 use mathlib.Core.Bool.{Bool, true, false, not, cond, true≢false}
 use mathlib.Core.List.{List, [], _∷_, _++_, append-nil}
-use Prim.Native.Nat.{ℕ, zero, suc, _+_}
+use Prim.Native.Nat.{ℕ, zero, suc, _+_, _≤_}
+use native.Mathlib.Omega.{arith}
 use native.Mathlib.Nat.{add-zero, add-suc, suc-add, zero-add}
 use lib.Dec.{ltb}
 use Rattle.answers.specs.declared.Answer.{Answer}
 use Rattle.answers.specs.declared.Answer.the-variants.{Done, Size, Short, Range}
-use Rattle.answers.specs.Answers.{isDone}
+use Rattle.answers.specs.Answers.{numberOf, isDone}
 use Rattle.answers.specs.Tests.{sizeTaken, bufferTest, Lent, Place, sizeTests, bufferTests, placeTests, afterTests, callAnswer}
 use Rattle.answers.specs.Exactly.{All, FirstNot, holds, inside, Given, size, short, range, done}
 
@@ -95,6 +96,16 @@ module _ (ns : List ℕ) (bs : List Lent) (ps : List Place) where
       (λ b. ⊎-elim (λ h. found Done (done a b h)) (λ h. found (Range (h .1 .which)) (range (h .0) (h .1) a b (h .2))) (decide inside ps))
       (λ h. found (Short (h .0)) (short (h .0) (h .1) a (h .2))) (decide holds bs))
       (λ h. found (Size (h .0)) (size (h .0) (h .1) (h .2))) (decide sizeTaken ns)
+
+  numbered : (v : Answer) → Given ns bs ps v → numberOf v ≤ 3
+  numbered v (size k n h) = omega arith
+  numbered v (short k b a h) = omega arith
+  numbered v (range k p a b h) = omega arith
+  numbered v (done a b c) = omega arith
+
+  -- no test says more than 3
+  pub at-most-3 : numberOf (callAnswer ns bs ps) ≤ 3
+  at-most-3 = numbered (callAnswer ns bs ps) is-given
 
   from-done : (v : Answer) → Given ns bs ps v → isDone v ≡ true → All sizeTaken ns × All holds bs × All inside ps
   from-done v (size k n h) e = absurd (true≢false (sym e))

@@ -21,6 +21,8 @@ pub enum Answer {
     Range(usize),
     // Refusal 4: the pivot of this index is not above zero, or not finite, NaN included.
     Pivot(usize),
+    // Refusal 9: some entry of the new x or P is not finite.
+    NotFinite,
 }
 
 // The number of the refusal (R3), 0 for done.
@@ -33,6 +35,7 @@ pub fn number_of(v: Answer) -> usize
         Answer::Short(_) => 2,
         Answer::Range(_) => 3,
         Answer::Pivot(_) => 4,
+        Answer::NotFinite => 9,
     }
 }
 
@@ -46,6 +49,7 @@ pub fn carried_by(v: Answer) -> usize
         Answer::Short(k) => k,
         Answer::Range(k) => k,
         Answer::Pivot(k) => k,
+        Answer::NotFinite => 0,
     }
 }
 

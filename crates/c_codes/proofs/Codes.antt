@@ -4,18 +4,19 @@ use mathlib.Core.Bool.{true}
 use Prim.Native.Nat.{ℕ, zero, suc, _/_, _%_, _≤_}
 use native.Mathlib.Omega.{arith}
 use Rattle.answers.specs.declared.Answer.{Answer}
-use Rattle.answers.specs.declared.Answer.the-variants.{Done, Size, Short, Range, Pivot}
+use Rattle.answers.specs.declared.Answer.the-variants.{Done, Size, Short, Range, Pivot, NotFinite}
 use Rattle.answers.specs.Answers.{numberOf, isDone}
 use Rattle.answers.proofs.Kept.{is-done}
 use Rattle.c_codes.specs.Code.{carried, codeOf, Told}
 
--- a refusal's number is at most 4, so no code is above 499
-pub at-most-4 : (v : Answer) → numberOf v ≤ 4
-at-most-4 Done = omega arith
-at-most-4 (Size k) = omega arith
-at-most-4 (Short k) = omega arith
-at-most-4 (Range k) = omega arith
-at-most-4 (Pivot k) = omega arith
+-- a refusal's number is at most 9, so no code is above 999
+pub at-most-9 : (v : Answer) → numberOf v ≤ 9
+at-most-9 Done = omega arith
+at-most-9 (Size k) = omega arith
+at-most-9 (Short k) = omega arith
+at-most-9 (Range k) = omega arith
+at-most-9 (Pivot k) = omega arith
+at-most-9 NotFinite = omega arith
 
 -- an answer is its number and what it carries
 abbrev ofParts : ℕ → ℕ → Answer
@@ -23,7 +24,8 @@ ofParts zero k = Done
 ofParts (suc zero) k = Size k
 ofParts (suc (suc zero)) k = Short k
 ofParts (suc (suc (suc zero))) k = Range k
-ofParts (suc (suc (suc (suc n)))) k = Pivot k
+ofParts (suc (suc (suc (suc zero)))) k = Pivot k
+ofParts (suc (suc (suc (suc (suc n))))) k = NotFinite
 
 parts : (v : Answer) → v ≡ ofParts (numberOf v) (carried v)
 parts Done = refl
@@ -31,6 +33,7 @@ parts (Size k) = refl
 parts (Short k) = refl
 parts (Range k) = refl
 parts (Pivot k) = refl
+parts NotFinite = refl
 
 same-parts : (v w : Answer) → numberOf v ≡ numberOf w → carried v ≡ carried w → v ≡ w
 same-parts v w n k = parts v ∙ rw (n, k) (sym (parts w))
@@ -38,7 +41,7 @@ same-parts v w n k = parts v ∙ rw (n, k) (sym (parts w))
 -- Answers that carry at most 99 have different codes where they differ.
 pub code-tells : (v w : Answer) → carried v ≤ 99 → carried w ≤ 99 → codeOf v ≡ codeOf w → v ≡ w
 unfolding codeOf
-code-tells v w hv hw e = same-parts v w (omega (arith, at-most-4 v, at-most-4 w)) (omega (arith, at-most-4 v, at-most-4 w))
+code-tells v w hv hw e = same-parts v w (omega (arith, at-most-9 v, at-most-9 w)) (omega (arith, at-most-9 v, at-most-9 w))
 
 -- Of such an answer, code / 100 is the refusal's number and code % 100 what it carries.
 pub read-back : (v : Answer) → carried v ≤ 99 → (codeOf v / 100 ≡ numberOf v) × (codeOf v % 100 ≡ carried v)

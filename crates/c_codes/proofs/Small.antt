@@ -8,7 +8,7 @@ use borrow.Author.Tests.{ltb-true}
 use lib.Dec.{ltb}
 use lib.ListN.{length}
 use Rattle.answers.specs.declared.Answer.{Answer}
-use Rattle.answers.specs.declared.Answer.the-variants.{Done, Size, Short, Range, Pivot}
+use Rattle.answers.specs.declared.Answer.the-variants.{Done, Size, Short, Range, Pivot, NotFinite}
 use Rattle.answers.specs.Answers.{isDone, firstOf}
 use Rattle.answers.specs.Tests.{sizeTaken, Lent, Place, sizeTests, bufferTests, placeTests, afterTests, callAnswer}
 use Rattle.answers.proofs.Fit.{fit}
@@ -67,7 +67,10 @@ pivot-small g i m h taken = of-gate (isDone g) refl
     of-gate true e = of-test (ltb i m) refl (taken e)
     of-gate false e = h
 
--- so of a call with the sizes n and m, as the update's and the correction's
-pub pair-small : (n m : ℕ) (bs : List Lent) (i : ℕ) → length bs ≤ 99 → carried (firstOf (callAnswer (n ∷ m ∷ []) bs []) (cond (ltb i m) (Pivot i) Done)) ≤ 99
-pair-small n m bs i h =
-    pivot-small (callAnswer (n ∷ m ∷ []) bs []) i m (call-small (n ∷ m ∷ []) bs [] (omega arith) h tt) (λ e. fit (n ∷ m ∷ []) bs [] e .0 .2 .1)
+-- so of a call with the sizes n and m, as the update's and the correction's, where refusal 9 may follow, which carries nothing
+pub pair-small : (n m : ℕ) (bs : List Lent) (i : ℕ) (t : Bool) → length bs ≤ 99
+    → carried (firstOf (firstOf (callAnswer (n ∷ m ∷ []) bs []) (cond (ltb i m) (Pivot i) Done)) (cond t Done NotFinite)) ≤ 99
+pair-small n m bs i t h =
+    let u = firstOf (callAnswer (n ∷ m ∷ []) bs []) (cond (ltb i m) (Pivot i) Done) in
+    either (isDone u) (cond t Done NotFinite) u (either t Done NotFinite (omega arith) (omega arith))
+    (pivot-small (callAnswer (n ∷ m ∷ []) bs []) i m (call-small (n ∷ m ∷ []) bs [] (omega arith) h tt) (λ e. fit (n ∷ m ∷ []) bs [] e .0 .2 .1))

@@ -1,2 +1,2 @@
--- What refusal 4 carries in a code.
+-- What a refusal carries in a code.
 pub mod Pivots

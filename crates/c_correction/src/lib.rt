@@ -23,8 +23,8 @@ pub extern "C" fn yurgamysh_innovation(
     c_codes::code_of(innovations::innovation(n, m, x, h, z, y))
 }
 
-// x and P after an observation whose innovation is y; or the first pivot that is not above zero, or
-// not finite, NaN included, is named, and x and P are as lent.
+// x and P after an observation whose innovation is y. Or the first pivot that is not above zero, or not
+// finite, NaN included, is named, or the new x or P is not all finite; then x and P are as lent.
 #[no_mangle]
 pub extern "C" fn yurgamysh_update(
     n: usize,

@@ -10,13 +10,14 @@ use lib.ListN.{length, getD, set, length-set}
 use lib.Seq.{getD-set-same, getD-set-other}
 use lib.Ieee.{Float, nan}
 use Rattle.answers.specs.declared.Answer.{Answer}
-use Rattle.answers.specs.declared.Answer.the-variants.{Done, Short, Pivot}
+use Rattle.answers.specs.declared.Answer.the-variants.{Done, Short}
 use Rattle.answers.specs.Answers.{isDone}
 use Rattle.one_state.specs.declared.OneState.{OneState}
 use Rattle.one_state.specs.declared.Corrected.the-variants.{Accepted, Refused}
 use Rattle.one_state.specs.OneState.{predicted, renewed, corrected}
 use Rattle.c_yarn.specs.Yarn.{recordOf, stored, sixAnswer, PredictedYarn, CorrectedYarn}
 use Rattle.answers.proofs.Kept.{is-done}
+use Rattle.one_state.proofs.Cases.{comes-back}
 
 by-test : (b : Bool) (len : ℕ) → ltb len 6 ≡ b → isDone (cond b (Short 0) Done) ≡ true → 6 ≤ len
 by-test true len e d = absurd (omega (arith, eqb-true 2 0 d))
@@ -39,8 +40,8 @@ module _ (l : List Float) (z : Float) (v : Answer) (e : v ≡ sixAnswer (length 
   pub short : isDone v ≡ false → CorrectedYarn l z v l
   short d = record { answer = rw (sym (ap isDone e) ∙ d) e; after = rw d }
 
-  pub refused : (s : OneState) (i : ℕ) → isDone v ≡ true → corrected (recordOf l) z ≡ Refused s i → CorrectedYarn l z (Pivot i) l
-  refused s i d h = record { answer = rw (sym (ap isDone e) ∙ d, h); after = refl }
+  pub refused : (s : OneState) (w : Answer) → isDone v ≡ true → corrected (recordOf l) z ≡ Refused s w → CorrectedYarn l z w l
+  refused s w d h = record { answer = rw (sym (ap isDone e) ∙ d, h); after = rw (comes-back (recordOf l) z s w h .1) }
 
   pub accepted : (s : OneState) (l' : List Float) → isDone v ≡ true → corrected (recordOf l) z ≡ Accepted s → l' ≡ stored s l → CorrectedYarn l z v l'
   accepted s l' d h k = record { answer = rw (sym (ap isDone e) ∙ d, h) (is-done v d); after = rw (d, h) k }

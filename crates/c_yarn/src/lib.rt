@@ -18,7 +18,8 @@ pub extern "C" fn yurgamysh_one_state_predict(yarn: &mut [f32]) -> usize
 }
 
 // x and p as the reading z moves them, the other numbers as lent; or the buffer holds fewer than six,
-// or the reading's spread S is not above zero, or not finite, NaN included, and it is as lent.
+// or the reading's spread S is not above zero, or not finite, NaN included, or the new x or p is not
+// finite, and it is as lent.
 #[no_mangle]
 pub extern "C" fn yurgamysh_one_state_correct(yarn: &mut [f32], z: f32) -> usize
     ensures { λ code. ⌜ Told (λ v. CorrectedYarn (now (yarn .entry)) z v (now (yarn .exit))) code ⌝ }
@@ -47,7 +48,7 @@ fn correct(yarn: &mut [f32], z: f32) -> Answer
         let s = load(yarn);
         match s.correct(z) {
             Corrected::Accepted(next) => store(yarn, next),
-            Corrected::Refused(_, i) => return Answer::Pivot(i),
+            Corrected::Refused(_, why) => return why,
         }
     }
     v

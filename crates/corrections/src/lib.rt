@@ -6,7 +6,8 @@ ghost use Rattle.filters.specs.Lent.{buffers, Held};
 ghost use Rattle.filters.specs.Corrected.{Renewed};
 use answers::Answer;
 
-// The update from the y that is lent: done, or the pivot that is refused.
+// The update from the y that is lent: done, the pivot that is refused, or 9 where the new x or P is not
+// all finite.
 pub fn update_cells(
     n: usize,
     m: usize,
@@ -32,6 +33,5 @@ pub fn update_cells(
         return Answer::Pivot(i);
     }
     updates::gain_cells(n, m, p, h, s, k, temp_s_inv, temp_pht);
-    updates::renew_cells(n, m, x, p, y, k, temp_hp, temp_khp);
-    Answer::Done
+    renewals::renew_cells(n, m, x, p, y, k, temp_hp, temp_khp)
 }

@@ -1,4 +1,4 @@
-// A feeder's shift: eighteen readings of a yarn's tension, one of which is lost on the wire and two
+// A feeder's shift: eighteen readings of a yarn's tension, one of which is lost on the wire and three
 // of which are refused. Writes a line for each step, and then what became of the readings.
 mod table;
 mod work;

@@ -22,7 +22,13 @@ fn spread(f: Feeder) {
 // The tension that was read, or a dash.
 fn reading(g: Reading) {
     match g {
-        Reading::Arrived(z, _) => number(z),
+        Reading::Arrived(z, _) => {
+            if z != z {
+                text(b"     NaN");
+            } else {
+                number(z);
+            }
+        }
         Reading::Lost => text(b"       -"),
     }
 }
@@ -36,6 +42,7 @@ fn answer(v: Answer) {
             whole(i as u64);
             text(b", estimate kept");
         }
+        Answer::NotFinite => text(b"refused: result not finite, estimate kept"),
         _ => text(b"refused, estimate kept"),
     }
 }
@@ -48,10 +55,12 @@ fn outcome(o: Outcome) {
     }
 }
 
-// Behind the answer: that the reading's noise is not a number, or infinite.
+// Behind the answer: that the reading or its noise is not a number, or the noise infinite.
 fn remark(g: Reading) {
-    if let Reading::Arrived(_, r) = g {
-        if r != r {
+    if let Reading::Arrived(z, r) = g {
+        if z != z {
+            text(b" (the reading is not a number)");
+        } else if r != r {
             text(b" (R is not a number)");
         } else if r == 1.0 / 0.0 {
             text(b" (R is infinite)");

@@ -9,7 +9,7 @@ use lib.ListN.{length}
 use lib.Ieee.{Float, Format, add, sub}
 use Rattle.answers.specs.declared.Answer.{Answer}
 use Rattle.answers.specs.declared.Answer.the-variants.{Done, Pivot}
-use Rattle.answers.specs.Answers.{isDone}
+use Rattle.answers.specs.Answers.{isDone, settled}
 use Rattle.grids.specs.Grid.{cell, run, grid, SameEntries}
 use Rattle.grids.proofs.Grids.{run-ext, grid-ext}
 use Rattle.entries.specs.Entries.{times, numbers}
@@ -18,7 +18,8 @@ use Rattle.factors.specs.Inverse.{inverse}
 use Rattle.factors.proofs.OnlyLower.{inverse-lower}
 use Rattle.filters.specs.Correction.{HPOf, factorOf, pivotOf, inverseOf, PHtOf, gainOf, newX, KHPOf}
 use Rattle.filters.specs.Lent.{Buffers, buffers, updateAnswer, correctAnswer}
-use Rattle.filters.specs.Corrected.{Renewed, withY, innovationIn, innovated, Updated, Corrected}
+use Rattle.filters.specs.Corrected.{pivotsAnswer, finiteAnswer, nextX, nextP, Renewed, withY, innovationIn, innovated, Updated, Corrected}
+use Rattle.filters.proofs.Verdict.{finite-alike}
 use Rattle.entries.proofs.Written.{written, times-alike, timesX-alike}
 
 -- the buffers with another z
@@ -43,16 +44,17 @@ module _ (f : Format) (n m : ℕ) (b e : Buffers) where
       → e .S-inv ≡ b .S-inv → e .PHt ≡ b .PHt → e .K ≡ b .K → e .x ≡ b .x → e .KHP ≡ b .KHP → e .P ≡ b .P
       → Renewed f n m Done (Pivot i) b e
   pivot-refused i h q hp s vi vt vk vx vh vp =
-      let named : Pivot i ≡ pivotAnswer i m = simp (lt-ltb i m h) in
+      let named : pivotAnswer i m ≡ Pivot i = simp (lt-ltb i m h) in
+      let told : pivotsAnswer f n m b ≡ Pivot i = ap (λ (k : ℕ). pivotAnswer k m) (sym q) ∙ named in
       record {
-        answer = named ∙ ap (λ (k : ℕ). pivotAnswer k m) q;
+        answer = rw told refl;
         HP-after = hp;
         S-after = s;
-        S-inv-after = vi;
-        PHt-after = vt;
-        K-after = vk;
+        S-inv-after = rw told vi;
+        PHt-after = rw told vt;
+        K-after = rw told vk;
         x-after = vx;
-        KHP-after = vh;
+        KHP-after = rw told vh;
         P-after = vp;
       }
 
@@ -62,33 +64,39 @@ module _ (f : Format) (n m : ℕ) (b e : Buffers) where
     inverse-same r c hr hc =
         inverse-lower f m (cell m (e .S)) (factorOf f n m H P R) (λ i j h k. written m m (factorOf f n m H P R) (b .S) (e .S) S-fits s i j k (omega arith)) I I r c hr hc
 
-    -- every pivot is taken
-    pub pivots-taken : (i : ℕ) → m ≤ i → i ≡ pivotOf f n m H P R
+    -- every pivot is taken, and v says whether the new x and P are finite
+    pub pivots-taken : (i : ℕ) (v : Answer) → m ≤ i → i ≡ pivotOf f n m H P R
         → e .S-inv ≡ grid m m (inverse f m (cell m (e .S)) I) (b .S-inv)
         → e .PHt ≡ grid n m (PHtOf f n H P) (b .PHt)
         → e .K ≡ grid n m (times f m (PHtOf f n H P) (inverse f m (cell m (e .S)) I)) (b .K)
-        → e .x ≡ run 0 n (newX f m (cell m (e .K)) (numbers (b .x)) (numbers (b .y))) (b .x)
+        → v ≡ finiteAnswer n (newX f m (cell m (e .K)) (numbers (b .x)) (numbers (b .y))) (λ r c. sub f (P r c) (times f m (cell m (e .K)) (cell n (e .HP)) r c))
+        → e .x ≡ settled v (run 0 n (newX f m (cell m (e .K)) (numbers (b .x)) (numbers (b .y))) (b .x)) (b .x)
         → e .KHP ≡ grid n n (times f m (cell m (e .K)) (cell n (e .HP))) (b .KHP)
-        → e .P ≡ grid n n (λ r c. sub f (P r c) (times f m (cell m (e .K)) (cell n (e .HP)) r c)) (b .P)
-        → Renewed f n m Done Done b e
-    pivots-taken i h q vi vt vk vx vh vp =
-        let none : Done ≡ pivotAnswer i m = simp (le-ltb i m h) in
+        → e .P ≡ settled v (grid n n (λ r c. sub f (P r c) (times f m (cell m (e .K)) (cell n (e .HP)) r c)) (b .P)) (b .P)
+        → Renewed f n m Done v b e
+    pivots-taken i v h q vi vt vk vv vx vh vp =
+        let none : pivotAnswer i m ≡ Done = simp (le-ltb i m h) in
+        let told : pivotsAnswer f n m b ≡ Done = ap (λ (k : ℕ). pivotAnswer k m) (sym q) ∙ none in
         let G = gainOf f n m H P R I in
         let gain : e .K ≡ grid n m G (b .K) =
         vk ∙ grid-ext n m _ _ (b .K) (times-alike f n m m (PHtOf f n H P) (PHtOf f n H P) (inverse f m (cell m (e .S)) I) (inverseOf f n m H P R I) (λ r c hr hc. refl) inverse-same) in
         let K-same : SameEntries n m (cell m (e .K)) G = written n m G (b .K) (e .K) K-fits gain in
         let KHP-same : SameEntries n n (times f m (cell m (e .K)) (cell n (e .HP))) (KHPOf f n m G H P) =
         times-alike f n m n (cell m (e .K)) G (cell n (e .HP)) (HPOf f n H P) K-same (written m n (HPOf f n H P) (b .HP) (e .HP) HP-fits hp) in
+        let x-same : (r : ℕ) → r < n → newX f m (cell m (e .K)) (numbers (b .x)) (numbers (b .y)) r ≡ nextX f n m b r =
+        λ r hr. ap (add f (numbers (b .x) r)) (timesX-alike f n m (cell m (e .K)) G (numbers (b .y)) r hr K-same) in
+        let P-same : SameEntries n n (λ r c. sub f (P r c) (times f m (cell m (e .K)) (cell n (e .HP)) r c)) (nextP f n m b) =
+        λ r c hr hc. ap (sub f (P r c)) (KHP-same r c hr hc) in
         record {
-          answer = none ∙ ap (λ (k : ℕ). pivotAnswer k m) q;
+          answer = rw told (vv ∙ finite-alike n _ _ _ _ x-same P-same);
           HP-after = hp;
           S-after = s;
-          S-inv-after = vi ∙ grid-ext m m _ _ (b .S-inv) inverse-same;
-          PHt-after = vt;
-          K-after = gain;
-          x-after = vx ∙ run-ext 0 n _ _ (b .x) (λ r hr. ap (add f (numbers (b .x) r)) (timesX-alike f n m (cell m (e .K)) G (numbers (b .y)) r hr K-same));
-          KHP-after = vh ∙ grid-ext n n _ _ (b .KHP) KHP-same;
-          P-after = vp ∙ grid-ext n n _ _ (b .P) (λ r c hr hc. ap (sub f (P r c)) (KHP-same r c hr hc));
+          S-inv-after = rw told (vi ∙ grid-ext m m _ _ (b .S-inv) inverse-same);
+          PHt-after = rw told vt;
+          K-after = rw told gain;
+          x-after = vx ∙ ap (λ (l : List Float). settled v l (b .x)) (run-ext 0 n _ _ (b .x) x-same);
+          KHP-after = rw told (vh ∙ grid-ext n n _ _ (b .KHP) KHP-same);
+          P-after = vp ∙ ap (λ (l : List Float). settled v l (b .P)) (grid-ext n n _ _ (b .P) P-same);
         }
 
 -- what the update leaves does not go by z, nor by the y afterwards
@@ -111,14 +119,14 @@ module _ (f : Format) (n m : ℕ) (g v : Answer) (b e : Buffers) where
   -- past the door, what the core left
   past-the-door : isDone g ≡ true → Renewed f n m Done v b e → Renewed f n m g v b e
   past-the-door done r = record {
-    answer = simp done (r .answer);
-    HP-after = simp done (r .HP-after);
-    S-after = simp done (r .S-after);
-    S-inv-after = r .S-inv-after;
-    PHt-after = r .PHt-after;
-    K-after = r .K-after;
+    answer = rw done (r .answer);
+    HP-after = rw done (r .HP-after);
+    S-after = rw done (r .S-after);
+    S-inv-after = rw done (r .S-inv-after);
+    PHt-after = rw done (r .PHt-after);
+    K-after = rw done (r .K-after);
     x-after = r .x-after;
-    KHP-after = r .KHP-after;
+    KHP-after = rw done (r .KHP-after);
     P-after = r .P-after;
   }
 

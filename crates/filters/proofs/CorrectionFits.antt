@@ -7,10 +7,11 @@ use native.Mathlib.Omega.{arith}
 use lib.ListN.{length}
 use lib.Ieee.{Float}
 use Rattle.answers.specs.declared.Answer.{Answer}
-use Rattle.answers.specs.Answers.{isDone, firstOf}
+use Rattle.answers.specs.Answers.{numberOf, isDone, firstOf}
 use Rattle.answers.specs.Tests.{bufferTest, bufferTests, afterTests, lent}
 use Rattle.answers.proofs.Fit as fits
 use Rattle.answers.proofs.Fit.{fit}
+use Rattle.answers.proofs.Table.{at-most-3}
 use Rattle.filters.specs.Lent.{Buffers, buffers, fromR, frontOf, fromROf, correctAnswer, updateAnswer, innovationAnswer, Held}
 
 -- A test after others: the first refusal of them all stays.
@@ -63,6 +64,7 @@ held n m b s x P H l =
     let k = l .1 .1 .1 .1 in
     record {
       states = s .0;
+      few-states = s .1;
       observations = s .2 .0;
       x-holds = x;
       P-holds = P;
@@ -99,10 +101,20 @@ correct-fits n m b e =
     let h = fit (n ∷ m ∷ []) (frontOf n m b ++ lent m (length (b .z)) ∷ fromROf n m b) [] e in
     (held n m b (h .0) (h .1 .0) (h .1 .1 .0) (h .1 .1 .1 .0) (h .1 .1 .1 .1 .1), h .1 .1 .1 .1 .0)
 
+-- The doors say no more than 3.
+pub update-at-most-3 : (n m : ℕ) (b : Buffers) → numberOf (updateAnswer n m b) ≤ 3
+unfolding updateAnswer
+update-at-most-3 n m b = at-most-3 (n ∷ m ∷ []) (frontOf n m b ++ fromROf n m b) []
+
+pub correct-at-most-3 : (n m : ℕ) (b : Buffers) → numberOf (correctAnswer n m b) ≤ 3
+unfolding correctAnswer
+correct-at-most-3 n m b = at-most-3 (n ∷ m ∷ []) (frontOf n m b ++ lent m (length (b .z)) ∷ fromROf n m b) []
+
 -- The buffers hold what they are to hold with another y that is long enough, and whatever z is.
 pub held-with : (n m : ℕ) (b : Buffers) (y z : List Float) → Held n m b → m ≤ length y → Held n m (buffers (b .x) (b .P) (b .H) z (b .R) y (b .S) (b .K) (b .S-inv) (b .HP) (b .PHt) (b .KHP))
 held-with n m b y z h l = record {
   states = h .states;
+  few-states = h .few-states;
   observations = h .observations;
   x-holds = h .x-holds;
   P-holds = h .P-holds;

@@ -1,6 +1,6 @@
 -- Where an update or a correction is done, the diagonal of the factor in S is finite and above zero, and so are its reciprocals, whatever was lent; and a diagonal entry of R that is NaN or infinite is refused with 4.
 -- S is a sum, so its entries are values of the format, and not finite where R is not; the rest is the decomposition's. Assumes nothing.
-use mathlib.Core.Path.{_≡_, ap, _∙_}
+use mathlib.Core.Path.{_≡_, refl, ap, _∙_}
 use mathlib.Core.Bool.{true, false}
 use mathlib.Core.List.{List}
 use Prim.Native.Nat.{ℕ, _*_, _≤_, _<_}
@@ -21,10 +21,10 @@ use Rattle.factors.proofs.Named.{named-before, done-reached}
 use Rattle.factors.proofs.Diagonal.{pivot-refused, diagonal-both}
 use Rattle.filters.specs.Correction.{factorOf}
 use Rattle.filters.specs.Lent.{Buffers, correctAnswer, updateAnswer}
-use Rattle.filters.specs.Corrected.{Renewed, Updated, Corrected, withY, innovated}
+use Rattle.filters.specs.Corrected.{pivotsAnswer, Renewed, Updated, Corrected, withY, innovated}
 use Rattle.filters.specs.Outcomes.{covariance}
 use Rattle.filters.proofs.CorrectionFits.{update-fits, correct-fits}
-use Rattle.filters.proofs.Exactly.{past, update-only-done, correct-only-done}
+use Rattle.filters.proofs.Exactly.{refused-by-pivots, all-passed, update-only-done, correct-only-done}
 
 -- ---- an update past the gate, whose answer is g
 
@@ -35,13 +35,14 @@ module _ (f : Format) (n m : ℕ) (g v : Answer) (b e : Buffers) (r : Renewed f 
       let S = covariance f n m b in
       let left : cell m (e .S) i i ≡ factorOf f n m (cell n (b .H)) (cell n (b .P)) (cell m (b .R)) i i =
       ap (λ (l : List Float). cell m l i i) (rw gate at (r .S-after)) ∙ grid-cell m m _ (b .S) i i h h held in
-      rw left (diagonal-both f m S (done-reached f m S v (past r gate) done) (add-fits f _ _) i h)
+      rw left (diagonal-both f m S (done-reached f m S (pivotsAnswer f n m b) refl (all-passed r done .1)) (add-fits f _ _) i h)
 
   -- R is not finite at (i, i)
   renewed-refused : (i : ℕ) → i < m → finite (cell m (b .R) i i) ≡ false → (k : ℕ) × (k ≤ i) × (v ≡ Pivot k)
   renewed-refused i h bad =
       let S = covariance f n m b in
-      named-before f m S v (past r gate) i h (pivot-refused f S i (plus-not-finite f _ _ bad))
+      let w = named-before f m S (pivotsAnswer f n m b) refl i h (pivot-refused f S i (plus-not-finite f _ _ bad)) in
+      (w .0, w .1, refused-by-pivots r gate (w .0) (w .2))
 
 -- ---- the update
 

@@ -1,13 +1,13 @@
 -- Nothing of R below the diagonal matters to the answer, to x or to P: two calls past refusals 1 and 2 that read the same x, P, H and y (or z), and R alike on and above the diagonal, answer alike and leave the same x and P.
--- S = H·P·Hᵀ + R goes entry by entry, its decomposition reads the upper triangle alone, and so the factor, the inverse and the gain are the same. Assumes nothing.
-use mathlib.Core.Path.{_≡_, refl, sym, ap, subst, _∙_}
+-- S = H·P·Hᵀ + R goes entry by entry, its decomposition reads the upper triangle alone, and so the factor, the inverse, the gain, the new x and P and the last test are the same. Assumes nothing.
+use mathlib.Core.Path.{_≡_, refl, sym, ap, ap₂, subst, _∙_}
 use mathlib.Core.Bool.{Bool, true, false}
 use mathlib.Core.List.{List}
-use Prim.Native.Nat.{ℕ, _≤_}
+use Prim.Native.Nat.{ℕ, _<_, _≤_}
 use native.Mathlib.Omega.{arith}
 use lib.Ieee.{Float, Format, add, sub}
 use Rattle.answers.specs.declared.Answer.{Answer}
-use Rattle.answers.specs.Answers.{isDone}
+use Rattle.answers.specs.Answers.{isDone, settled}
 use Rattle.grids.specs.Grid.{cell, SameEntries}
 use Rattle.grids.proofs.Grids.{run-ext, grid-ext}
 use Rattle.entries.specs.Entries.{numbers}
@@ -15,12 +15,15 @@ use Rattle.entries.proofs.Written.{times-alike, timesX-alike}
 use Rattle.factors.specs.Decomposition.{SameUpper}
 use Rattle.factors.specs.Decomposed.{pivotAnswer}
 use Rattle.answers.proofs.Kept.{is-done}
+use Rattle.answers.proofs.Asked.{goes-on, stops}
 use Rattle.factors.proofs.Named.{done-reached}
 use Rattle.factors.proofs.OnlyUpper.{reached-upper, decomposed-upper}
 use Rattle.factors.proofs.OnlyLower.{inverse-lower}
-use Rattle.filters.specs.Correction.{HPOf, residualOf, factorOf, pivotOf, inverseOf, PHtOf, gainOf, newX, KHPOf, newP}
+use Rattle.filters.specs.Correction.{HPOf, residualOf, factorOf, pivotOf, inverseOf, PHtOf, gainOf}
 use Rattle.filters.specs.Lent.{Buffers, buffers, correctAnswer, updateAnswer}
-use Rattle.filters.specs.Corrected.{Renewed, Updated, Corrected, withY, innovationIn, innovated}
+use Rattle.filters.specs.Corrected.{gainIn, nextX, nextP, pivotsAnswer, finiteAnswer, Renewed, Updated, Corrected, withY, innovationIn, innovated}
+use Rattle.filters.proofs.Verdict.{finite-alike}
+use Rattle.filters.proofs.Exactly.{past}
 
 -- ---- the entries
 
@@ -65,47 +68,57 @@ module _ (f : Format) (n m : ℕ) (g h v w : Answer) (b c e d : Buffers) (r : Re
   abbrev R' : ℕ → ℕ → Float
   R' = cell m (c .R)
 
-  -- the two gains
-  abbrev K : ℕ → ℕ → Float
-  K = gainOf f n m H P R (cell m (b .S-inv))
-
-  abbrev K' : ℕ → ℕ → Float
-  K' = gainOf f n m H P R' (cell m (c .S-inv))
-
   -- the second call as one that was lent the first's x, P, H and y
-  second : Renewed f n m h w (buffers (b .x) (b .P) (b .H) (c .z) (c .R) (b .y) (c .S) (c .K) (c .S-inv) (c .HP) (c .PHt) (c .KHP)) d
+  abbrev c' : Buffers
+  c' = buffers (b .x) (b .P) (b .H) (c .z) (c .R) (b .y) (c .S) (c .K) (c .S-inv) (c .HP) (c .PHt) (c .KHP)
+
+  second : Renewed f n m h w c' d
   second = read-alike b c d s qx qP qH qy
 
-  -- one answer
-  answered : v ≡ pivotAnswer (pivotOf f n m H P R) m
-  answered = rw dg at (r .answer)
+  -- the pivots answer alike
+  pivots-alike : pivotsAnswer f n m b ≡ pivotsAnswer f n m c'
+  pivots-alike = ap (λ (i : ℕ). pivotAnswer i m) (pivot-upper f n m H P R R' same)
 
-  answered' : w ≡ pivotAnswer (pivotOf f n m H P R') m
-  answered' = rw dh at (second .answer)
+  -- where every one is taken the gains are alike, and so are the new x and P
+  module _ (taken : m ≤ pivotOf f n m H P R) where
+    gains : SameEntries n m (gainIn f n m b) (gainIn f n m c')
+    gains = gain-upper f n m H P R R' same taken (cell m (b .S-inv)) (cell m (c .S-inv))
 
-  one : v ≡ w
-  one = answered ∙ ap (λ (i : ℕ). pivotAnswer i m) (pivot-upper f n m H P R R' same) ∙ sym answered'
+    x-alike : (i : ℕ) → i < n → nextX f n m b i ≡ nextX f n m c' i
+    x-alike i hi = ap (add f (numbers (b .x) i)) (timesX-alike f n m (gainIn f n m b) (gainIn f n m c') (numbers (b .y)) i hi gains)
 
-  -- x and P, refused with 4 or done
-  left-alike : (t : Bool) → isDone v ≡ t → (e .x ≡ d .x) × (e .P ≡ d .P)
+    P-alike : SameEntries n n (nextP f n m b) (nextP f n m c')
+    P-alike i j hi hj = ap (sub f (P i j)) (times-alike f n m n (gainIn f n m b) (gainIn f n m c') (HPOf f n H P) (HPOf f n H P) gains (λ r c hr hc. refl) i j hi hj)
+
+  -- refused at a pivot, or past them all
+  left-alike : (t : Bool) → isDone (pivotsAnswer f n m b) ≡ t → (v ≡ w) × (e .x ≡ d .x) × (e .P ≡ d .P)
   left-alike false q =
-      let q' : isDone w ≡ false = ap isDone (sym one) ∙ q in
-      ((rw q at (r .x-after)) ∙ sym (rw q' at (second .x-after)), (rw q at (r .P-after)) ∙ sym (rw q' at (second .P-after)))
+      let last = finiteAnswer n (nextX f n m b) (nextP f n m b) in
+      let last' = finiteAnswer n (nextX f n m c') (nextP f n m c') in
+      let q' : isDone (pivotsAnswer f n m c') ≡ false = ap isDone (sym pivots-alike) ∙ q in
+      let told : v ≡ pivotsAnswer f n m b = past r dg ∙ stops (pivotsAnswer f n m b) last q in
+      let told' : w ≡ pivotsAnswer f n m c' = past second dh ∙ stops (pivotsAnswer f n m c') last' q' in
+      let no : isDone v ≡ false = ap isDone told ∙ q in
+      let no' : isDone w ≡ false = ap isDone told' ∙ q' in
+      (told ∙ pivots-alike ∙ sym told', (rw no at (r .x-after)) ∙ sym (rw no' at (second .x-after)), (rw no at (r .P-after)) ∙ sym (rw no' at (second .P-after)))
   left-alike true q =
-      let q' : isDone w ≡ true = ap isDone (sym one) ∙ q in
-      let taken : m ≤ pivotOf f n m H P R = done-reached f m (residualOf f n H P R) v answered (is-done v q) in
-      let gains : SameEntries n m K K' = gain-upper f n m H P R R' same taken (cell m (b .S-inv)) (cell m (c .S-inv)) in
-      let products : SameEntries n n (KHPOf f n m K H P) (KHPOf f n m K' H P) = times-alike f n m n K K' (HPOf f n H P) (HPOf f n H P) gains (λ r c hr hc. refl) in (
-        (rw q at (r .x-after))
-            ∙ run-ext 0 n (newX f m K (numbers (b .x)) (numbers (b .y))) (newX f m K' (numbers (b .x)) (numbers (b .y))) (b .x) (λ i hi. ap (add f (numbers (b .x) i)) (timesX-alike f n m K K' (numbers (b .y)) i hi gains))
-            ∙ sym (rw q' at (second .x-after)),
-        (rw q at (r .P-after))
-            ∙ grid-ext n n (newP f n m K H P) (newP f n m K' H P) (b .P) (λ i j hi hj. ap (sub f (P i j)) (products i j hi hj))
-            ∙ sym (rw q' at (second .P-after)),
+      let last = finiteAnswer n (nextX f n m b) (nextP f n m b) in
+      let last' = finiteAnswer n (nextX f n m c') (nextP f n m c') in
+      let taken : m ≤ pivotOf f n m H P R = done-reached f m (residualOf f n H P R) (pivotsAnswer f n m b) refl (is-done (pivotsAnswer f n m b) q) in
+      let told : v ≡ last = past r dg ∙ goes-on (pivotsAnswer f n m b) last q in
+      let told' : w ≡ last' = past second dh ∙ goes-on (pivotsAnswer f n m c') last' (ap isDone (sym pivots-alike) ∙ q) in
+      let one : v ≡ w = told ∙ finite-alike n (nextX f n m b) (nextX f n m c') (nextP f n m b) (nextP f n m c') (x-alike taken) (P-alike taken) ∙ sym told' in (
+        one,
+        r .x-after
+            ∙ ap₂ (λ (a : Answer) (l : List Float). settled a l (b .x)) one (run-ext 0 n (nextX f n m b) (nextX f n m c') (b .x) (x-alike taken))
+            ∙ sym (second .x-after),
+        r .P-after
+            ∙ ap₂ (λ (a : Answer) (l : List Float). settled a l (b .P)) one (grid-ext n n (nextP f n m b) (nextP f n m c') (b .P) (P-alike taken))
+            ∙ sym (second .P-after),
       )
 
   renewed-upper : (v ≡ w) × (e .x ≡ d .x) × (e .P ≡ d .P)
-  renewed-upper = let l = left-alike (isDone v) refl in (one, l .0, l .1)
+  renewed-upper = left-alike (isDone (pivotsAnswer f n m b)) refl
 
 -- ---- the public calls
 

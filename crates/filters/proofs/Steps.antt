@@ -1,17 +1,23 @@
 -- The steps of a correction one after the other, over plain lists: from what each call leaves to the entries of the definitions.
 -- A step reads a buffer that an earlier one wrote within its matrix alone, so its cells may be replaced by the entries written. Assumes nothing.
-use mathlib.Core.Path.{_≡_, refl, ap, _∙_}
+use mathlib.Core.Path.{_≡_, refl, sym, ap, _∙_}
+use mathlib.Core.Bool.{Bool, true, false}
 use mathlib.Core.List.{List}
-use Prim.Native.Nat.{ℕ, _*_, _≤_}
+use Prim.Native.Nat.{ℕ, _+_, _*_, _<_, _≤_}
 use lib.ListN.{length, getD}
 use lib.Ieee.{Float, Format, nan, add, sub}
+use lib.Ieee.Scale.{finite}
+use Rattle.answers.specs.declared.Answer.the-variants.{Done, NotFinite}
+use Rattle.numbers.specs.Finite.{every, allFinite, entriesFinite}
+use Rattle.numbers.proofs.Every.{every-same, every-flat}
 use Rattle.grids.specs.Grid.{cell, run, grid}
 use Rattle.grids.proofs.Grids.{run-over, run-ext, grid-ext}
 use Rattle.grids.proofs.Steps.{regrid}
 use Rattle.entries.specs.Entries.{times, timesT, numbers, product, productT, rowProduct}
 use Rattle.factors.specs.Decomposition.{reached, decomposed}
 use Rattle.factors.specs.Inverse.{inverse}
-use Rattle.filters.specs.Correction.{innovationOf, HPOf, residualOf, factorOf, pivotOf, PHtOf}
+use Rattle.filters.specs.Correction.{innovationOf, HPOf, residualOf, factorOf, pivotOf, PHtOf, newX}
+use Rattle.filters.specs.Corrected.{finiteAnswer}
 use Rattle.entries.proofs.Written.{written, front-cell, entrywise, times-alike, timesT-alike}
 use Rattle.factors.proofs.Local.{reached-local, decomposed-local}
 
@@ -49,11 +55,50 @@ pub gain :
 gain f n m P H S I K PHt I' PHt' I-fits PHt-fits e₁ e₂ e₃ =
     e₃ ∙ grid-ext n m _ _ K (times-alike f n m m (cell m PHt') _ (cell m I') _ (written n m _ PHt PHt' PHt-fits e₂) (written m m _ I I' I-fits e₁))
 
--- temp_KHP = K·temp_HP, P = P − temp_KHP.
-pub renewed :
-    (f : Format) (n m : ℕ) (P K HP KHP KHP' : List Float) {P' : List Float} → n * n ≤ length KHP → KHP' ≡ grid n n (product f m n K HP) KHP
-    → P' ≡ run 0 (n * n) (λ i. sub f (getD P i nan) (getD KHP' i nan)) P
-    → P' ≡ grid n n (λ r c. sub f (cell n P r c) (times f m (cell m K) (cell n HP) r c)) P
-renewed f n m P K HP KHP KHP' fits e₁ e₂ =
-    e₂ ∙ entrywise n (sub f) P KHP' P
-    ∙ grid-ext n n _ _ P (λ r c hr hc. ap (sub f (cell n P r c)) (written n n _ KHP KHP' fits e₁ r c hr hc))
+-- temp_KHP = K·temp_HP, and K·y aside; then x + K·y and P − temp_KHP are tested, and stored where all of both is finite.
+module _ (f : Format) (n m : ℕ) (x P y K HP KHP ky ky' KHP' : List Float) (ky-fits : n ≤ length ky) (KHP-fits : n * n ≤ length KHP)
+    (e₁ : ky' ≡ run 0 n (rowProduct f m K y) ky) (e₂ : KHP' ≡ grid n n (product f m n K HP) KHP) where
+  -- what the program adds up and takes off
+  abbrev sum : ℕ → Float
+  sum i = add f (getD x i nan) (getD ky' i nan)
+
+  abbrev difference : ℕ → Float
+  difference i = sub f (getD P i nan) (getD KHP' i nan)
+
+  -- x and P anew
+  abbrev X : ℕ → Float
+  X = newX f m (cell m K) (numbers x) (numbers y)
+
+  abbrev Q : ℕ → ℕ → Float
+  Q r c = sub f (cell n P r c) (times f m (cell m K) (cell n HP) r c)
+
+  sum-is : (i : ℕ) → i < n → sum i ≡ X i
+  sum-is i h = ap (add f (getD x i nan)) (front-cell n (rowProduct f m K y) ky ky' i h ky-fits e₁)
+
+  difference-is : (r c : ℕ) → r < n → c < n → difference (r * n + c) ≡ Q r c
+  difference-is r c hr hc = ap (sub f (cell n P r c)) (written n n _ KHP KHP' KHP-fits e₂ r c hr hc)
+
+  sums-tested : (a : Bool) → a ≡ allFinite n sum → a ≡ allFinite n X
+  sums-tested a e = e ∙ every-same n (λ i. finite (sum i)) (λ i. finite (X i)) (λ i h. ap finite (sum-is i h))
+
+  differences-tested : (b : Bool) → b ≡ allFinite (n * n) difference → b ≡ entriesFinite n Q
+  differences-tested b e =
+      e ∙ every-flat n n (λ i. finite (difference i))
+      ∙ every-same n (λ r. every n (λ c. finite (difference (r * n + c)))) (λ r. allFinite n (Q r))
+      (λ r hr. every-same n (λ c. finite (difference (r * n + c))) (λ c. finite (Q r c)) (λ c hc. ap finite (difference-is r c hr hc)))
+
+  -- a says of the sums whether they are finite, and b of the differences
+  module _ {a b : Bool} (told : a ≡ allFinite n sum) (told' : b ≡ allFinite (n * n) difference) where
+    pub stored : {x' P' : List Float} → a ≡ true → b ≡ true → x' ≡ run 0 n sum x → P' ≡ run 0 (n * n) difference P
+        → (Done ≡ finiteAnswer n X Q) × (x' ≡ run 0 n X x) × (P' ≡ grid n n Q P)
+    stored t t' q q' = (
+      rw (sym (sums-tested a told) ∙ t, sym (differences-tested b told') ∙ t') refl,
+      q ∙ run-ext 0 n sum X x sum-is,
+      q' ∙ entrywise n (sub f) P KHP' P ∙ grid-ext n n _ _ P difference-is,
+    )
+
+    pub difference-refused : a ≡ true → b ≡ false → NotFinite ≡ finiteAnswer n X Q
+    difference-refused t t' = rw (sym (sums-tested a told) ∙ t, sym (differences-tested b told') ∙ t') refl
+
+  pub sum-refused : {a : Bool} → a ≡ allFinite n sum → a ≡ false → NotFinite ≡ finiteAnswer n X Q
+  sum-refused {a} told t = rw (sym (sums-tested a told) ∙ t) refl

@@ -129,6 +129,13 @@ grid-cell (suc n) cols e l r j hr hj k =
     (λ lt. run-before (n * cols) cols (e n) (grid n cols e l) (r * cols + j) (inside n cols r j lt hj) ∙ grid-cell n cols e l r j lt hj (omega (arith, suc-mul n cols)))
     (eq-or-lt-of-le (le-of-suc-le-suc hr))
 
+-- so is each number before rows·cols, by its row and its column
+pub grid-at : (rows cols : ℕ) (e : ℕ → ℕ → Float) (l : List Float) (i : ℕ) → 0 < cols → i < rows * cols → rows * cols ≤ length l → getD (grid rows cols e l) i nan ≡ e (i / cols) (i % cols)
+grid-at rows cols e l i pos h fits =
+    let at : cell cols (grid rows cols e l) (i / cols) (i % cols) ≡ e (i / cols) (i % cols) =
+    grid-cell rows cols e l (i / cols) (i % cols) (div-lt-iff-lt-mul pos .1 h) (mod-lt i pos) fits in
+    rw div-add-mod' at at
+
 -- a grid goes by the entries within the matrix alone
 pub grid-ext : (rows cols : ℕ) (e f : ℕ → ℕ → Float) (l : List Float) → ((r j : ℕ) → r < rows → j < cols → e r j ≡ f r j) → grid rows cols e l ≡ grid rows cols f l
 unfolding grid

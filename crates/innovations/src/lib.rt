@@ -19,8 +19,9 @@ pub fn innovation(n: usize, m: usize, x: &[f32], h: &[f32], z: &[f32], y: &mut [
 }
 
 // x and P after an observation whose innovation is y, with the gain in K and the lower factor of the
-// residual's covariance in S; or the first pivot of S that is not above zero, or not finite, NaN
-// included, is named, and x and P are as lent.
+// residual's covariance in S. Or the first pivot of S that is not above zero, or not finite, NaN
+// included, is named, or it is said that the new x or P is not all finite, as after a NaN in y; then x
+// and P are as lent.
 pub fn update_with_innovation(
     n: usize,
     m: usize,

@@ -6,6 +6,7 @@ pub mod Nearest
 pub mod Reciprocals
 pub mod Largest
 pub mod NotFinite
+pub mod Every
 pub mod Same
 pub mod Exact
 pub mod Sums

@@ -1,7 +1,8 @@
--- The definitions of single numbers, over the format: the reciprocal, the square root and what makes it the nearest, sums in their order, whole numbers.
+-- The definitions of single numbers, over the format: the reciprocal, the square root and what makes it the nearest, sums in their order, whole numbers, which are finite.
 pub mod Reciprocal
 pub mod Root
 pub mod Nearer
 pub mod Pattern
 pub mod Sums
 pub mod Whole
+pub mod Finite

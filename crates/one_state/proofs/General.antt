@@ -1,20 +1,22 @@
 -- The one-state filter has the bits of the general filter at n = m = 1, of any call that keeps the general functions' promises.
--- At size 1 each sum has one term and each matrix one cell, so the general definitions unfold to the one-state filter's; the pivot's test is the only case. Assumes nothing.
+-- At size 1 each sum has one term and each matrix one cell, so the general definitions unfold to the one-state filter's; the pivot's test and the last one are the only cases. Assumes nothing.
 use mathlib.Core.Path.{_≡_, refl, sym, ap, _∙_}
 use mathlib.Core.Logic.{_⊎_, inl, inr}
-use mathlib.Core.Bool.{Bool, true, false, cond, true≢false}
+use mathlib.Core.Bool.{Bool, true, false, cond, _&&_, true≢false}
 use mathlib.Core.List.{List, [], _∷_}
 use Prim.Native.Nat.{ℕ, _≤_}
 use native.Mathlib.Omega.{arith}
-use lib.ListN.{length, getD}
-use lib.Ieee.{Float, Format, binary32, nan}
+use lib.ListN.{length}
+use lib.Ieee.{Float, Format, binary32}
+use lib.Ieee.Scale.{finite}
 use Rattle.answers.specs.declared.Answer.{Answer}
-use Rattle.answers.specs.declared.Answer.the-variants.{Done, Pivot}
-use Rattle.answers.specs.Answers.{isDone, settled}
+use Rattle.answers.specs.declared.Answer.the-variants.{Done, Pivot, NotFinite}
+use Rattle.answers.specs.Answers.{isDone, firstOf, settled}
 use Rattle.answers.specs.Tests.{lent}
 use Rattle.answers.proofs.Fit.{fit}
 use Rattle.numbers.specs.Root.{sqrtOf}
 use Rattle.numbers.specs.Sums.{sumFrom}
+use Rattle.numbers.specs.Finite.{every}
 use Rattle.grids.specs.Grid.{cell, run, grid}
 use Rattle.grids.proofs.Grids.{run-cell, grid-cell}
 use Rattle.entries.specs.Entries.{numbers}
@@ -24,14 +26,15 @@ use Rattle.factors.specs.Decomposed.{pivotAnswer}
 use Rattle.factors.specs.Inverse.{plusSum, solved, back}
 use Rattle.filters.specs.Prediction as general
 use Rattle.filters.specs.Predicted.{predictAnswer, Predicted}
-use Rattle.filters.specs.Correction.{innovationOf, residualOf, gainOf, newX, newP}
+use Rattle.filters.specs.Correction.{innovationOf, residualOf, gainOf}
 use Rattle.filters.specs.Lent.{Buffers, correctAnswer}
 use Rattle.filters.specs.Corrected as observations
+use Rattle.filters.proofs.Exactly.{past}
 use Rattle.one_state.specs.declared.OneState.{OneState}
-use Rattle.one_state.specs.declared.Corrected.the-variants.{Accepted, Refused}
-use Rattle.one_state.specs.OneState.{timed, inverted, predictedX, predictedP, innovation, spread, gain, correctedX, correctedP, predicted, corrected}
+use Rattle.one_state.specs.declared.Corrected.the-variants.{Refused}
+use Rattle.one_state.specs.OneState.{timed, inverted, predictedX, predictedP, innovation, spread, gain, correctedX, correctedP, predicted, renewed, finiteXP, corrected}
 use Rattle.one_state.specs.General.{front, Agrees}
-use Rattle.one_state.proofs.Cases.{accepted, refused}
+use Rattle.one_state.proofs.Cases.{accepted, not-finite, refused}
 
 -- ---- buffers of one number
 
@@ -104,49 +107,65 @@ module _ (f : Format) (b : Buffers) (v : Answer) (e : Buffers) (call : observati
       let h = fit (1 ∷ 1 ∷ []) (lent 1 (length (b .x)) ∷ lent 1 (length (b .P)) ∷ rest) [] gate in
       (h .1 .0, h .1 .1 .0, h .1 .1 .1 .1 .1 .1 .0)
 
-  -- the answer goes by the test on S
-  answered : v ≡ cond (pivotTaken (spread f (front (b .H)) (front (b .P)) (front (b .R)))) Done (Pivot 0)
+  -- the buffers that the update reads
+  abbrev given : Buffers
+  given = observations.withY b (observations.innovated f 1 1 b)
+
+  -- S, the new x and the new p of the record that stands in front
+  abbrev S : Float
+  S = spread f (front (b .H)) (front (b .P)) (front (b .R))
+
+  abbrev x' : Float
+  x' = correctedX f (front (b .x)) (front (b .P)) (front (b .H)) (front (b .R)) (front (b .z))
+
+  abbrev p' : Float
+  p' = correctedP f (front (b .P)) (front (b .H)) (front (b .R))
+
+  -- the pivot's answer goes by the test on S
+  pivot-answered : observations.pivotsAnswer f 1 1 given ≡ cond (pivotTaken S) Done (Pivot 0)
   unfolding firstNot factor lessDot sumFrom
-  answered = rw gate at (call .renewed .answer) ∙ answer-1 (pivotTaken (spread f (front (b .H)) (front (b .P)) (front (b .R))))
+  pivot-answered = answer-1 (pivotTaken S)
+
+  -- and the call's by that, and then by the last test
+  answered : v ≡ firstOf (cond (pivotTaken S) Done (Pivot 0)) (observations.finiteAnswer 1 (observations.nextX f 1 1 given) (observations.nextP f 1 1 given))
+  answered =
+      past (call .renewed) gate
+      ∙ ap (λ (u : Answer). firstOf u (observations.finiteAnswer 1 (observations.nextX f 1 1 given) (observations.nextP f 1 1 given))) pivot-answered
 
   -- the innovation in y
   y-first : front (observations.innovated f 1 1 b) ≡ innovation f (front (b .H)) (front (b .x)) (front (b .z))
   unfolding sumFrom
   y-first = run-first (correctAnswer 1 1 b) (innovationOf f 1 (cell 1 (b .H)) (numbers (b .x)) (numbers (b .z))) (b .y) _ gate (correct-fits .2) refl
 
-  -- where S is taken: the answer, the gain, x afterwards and P
-  module _ (taken : pivotTaken (spread f (front (b .H)) (front (b .P)) (front (b .R))) ≡ true) where
-    pub accepted-done : v ≡ Done
-    accepted-done = answered ∙ rw taken
-
-    abbrev K : ℕ → ℕ → Float
-    K = gainOf f 1 1 (cell 1 (b .H)) (cell 1 (b .P)) (cell 1 (b .R)) (cell 1 (b .S-inv))
-
-    gain-first : K 0 0 ≡ gain f (front (b .H)) (front (b .P)) (front (b .R))
+  -- where S is taken: the gain, the new x and P
+  module _ (taken : pivotTaken S ≡ true) where
+    gain-first : observations.gainIn f 1 1 given 0 0 ≡ gain f (front (b .H)) (front (b .P)) (front (b .R))
     gain-first = gain-1 f (cell 1 (b .H)) (cell 1 (b .P)) (cell 1 (b .R)) (cell 1 (b .S-inv)) taken
 
-    pub correct-x-first : front (e .x) ≡ correctedX f (front (b .x)) (front (b .P)) (front (b .H)) (front (b .R)) (front (b .z))
+    next-x : observations.nextX f 1 1 given 0 ≡ x'
     unfolding sumFrom
-    correct-x-first =
-        run-first v (newX f 1 K (numbers (b .x)) (numbers (observations.innovated f 1 1 b))) (b .x) (e .x) (ap isDone accepted-done) (correct-fits .0) (call .renewed .x-after)
-        ∙ rw (gain-first, y-first)
+    next-x = rw (gain-first, y-first)
 
-    pub correct-p-first : front (e .P) ≡ correctedP f (front (b .P)) (front (b .H)) (front (b .R))
+    next-p : observations.nextP f 1 1 given 0 0 ≡ p'
     unfolding sumFrom
-    correct-p-first =
-        grid-first v (newP f 1 1 K (cell 1 (b .H)) (cell 1 (b .P))) (b .P) (e .P) (ap isDone accepted-done) (correct-fits .1) (call .renewed .P-after)
-        ∙ rw gain-first
+    next-p = rw gain-first
 
-  -- where it is not: the answer, and x and P stay
-  module _ (not : pivotTaken (spread f (front (b .H)) (front (b .P)) (front (b .R))) ≡ false) where
-    pub refused-0 : v ≡ Pivot 0
-    refused-0 = answered ∙ rw not
+    -- the answer goes by the test on these
+    tested : v ≡ cond (finite x' && finite p') Done NotFinite
+    unfolding every
+    tested = answered ∙ rw (taken, next-x, next-p) refl
 
-    pub x-stays : e .x ≡ b .x
-    x-stays = call .renewed .x-after ∙ rw refused-0
+    -- done: x and P afterwards
+    module _ (done : v ≡ Done) where
+      pub correct-x-first : front (e .x) ≡ x'
+      correct-x-first = run-first v (observations.nextX f 1 1 given) (b .x) (e .x) (ap isDone done) (correct-fits .0) (call .renewed .x-after) ∙ next-x
 
-    pub p-stays : e .P ≡ b .P
-    p-stays = call .renewed .P-after ∙ rw refused-0
+      pub correct-p-first : front (e .P) ≡ p'
+      correct-p-first = grid-first v (observations.nextP f 1 1 given) (b .P) (e .P) (ap isDone done) (correct-fits .1) (call .renewed .P-after) ∙ next-p
+
+  -- refused, x and P stay
+  stay : isDone v ≡ false → (e .x ≡ b .x) × (e .P ≡ b .P)
+  stay d = (rw d at (call .renewed .x-after), rw d at (call .renewed .P-after))
 
 -- ---- the correction of a record
 
@@ -156,26 +175,32 @@ pub correct-agrees :
     → front (b .x) ≡ s .x → front (b .P) ≡ s .p → front (b .H) ≡ s .h → front (b .R) ≡ s .r → front (b .z) ≡ z
     → observations.Corrected binary32 1 1 b v e → isDone (correctAnswer 1 1 b) ≡ true
     → Agrees s z b v e
-correct-agrees s z b v e hx hp hh hr hz call gate = go (pivotTaken (spread binary32 (s .h) (s .p) (s .r))) refl
+correct-agrees s z b v e hx hp hh hr hz call gate = go (pivotTaken (spread binary32 (s .h) (s .p) (s .r))) (finiteXP (renewed s z)) refl refl
   where
-    -- S is the same number on both sides
-    there : (t : Bool) → pivotTaken (spread binary32 (s .h) (s .p) (s .r)) ≡ t → pivotTaken (spread binary32 (front (b .H)) (front (b .P)) (front (b .R))) ≡ t
+    -- S is the same number on both sides, and so are the new x and p
+    there : (t : Bool) → pivotTaken (spread binary32 (s .h) (s .p) (s .r)) ≡ t → pivotTaken (S binary32 b v e call gate) ≡ t
     there t k = rw (hh, hp, hr) k
 
-    go : (t : Bool) → pivotTaken (spread binary32 (s .h) (s .p) (s .r)) ≡ t → Agrees s z b v e
-    go true k =
+    there-too : (t : Bool) → finiteXP (renewed s z) ≡ t → finite (x' binary32 b v e call gate) && finite (p' binary32 b v e call gate) ≡ t
+    there-too t k = rw (hx, hh, hp, hr, hz) k
+
+    -- refused on both sides, with one answer
+    both-refused : (w : Answer) → v ≡ w → isDone w ≡ false → corrected s z ≡ Refused s w → (v ≡ Done) ⊎ ((v ≡ Pivot 0) ⊎ (v ≡ NotFinite)) → Agrees s z b v e
+    both-refused w q d k o =
+        let no-done : isDone v ≡ false = ap isDone q ∙ d in
+        let kept = stay binary32 b v e call gate no-done in
+        record { done = λ t. absurd (true≢false (sym t ∙ no-done)); refused = λ _. (k ∙ ap (Refused s) (sym q), kept .0, kept .1); only = o }
+
+    go : (t u : Bool) → pivotTaken (spread binary32 (s .h) (s .p) (s .r)) ≡ t → finiteXP (renewed s z) ≡ u → Agrees s z b v e
+    go false u k j = let q : v ≡ Pivot 0 = answered binary32 b v e call gate ∙ rw (there false k) refl in both-refused (Pivot 0) q refl (refused s z k) (inr (inl q))
+    go true false k j =
+        let q : v ≡ NotFinite = tested binary32 b v e call gate (there true k) ∙ rw (there-too false j) refl in
+        both-refused NotFinite q refl (not-finite s z k j) (inr (inr q))
+    go true true k j =
         let t = there true k in
-        let d = accepted-done binary32 b v e call gate t in
+        let d : v ≡ Done = tested binary32 b v e call gate t ∙ rw (there-too true j) refl in
         record {
-          done = λ _. accepted s z k ∙ rw (correct-x-first binary32 b v e call gate t, correct-p-first binary32 b v e call gate t, hx, hp, hh, hr, hz);
-          pivot = λ i w. let n : _≡_ {A = ℕ} 0 1 = cc in absurd (omega arith);
+          done = λ _. accepted s z k j ∙ rw (correct-x-first binary32 b v e call gate t d, correct-p-first binary32 b v e call gate t d, hx, hp, hh, hr, hz);
+          refused = λ q. absurd (true≢false (sym (ap isDone d) ∙ q));
           only = inl d;
-        }
-    go false k =
-        let t = there false k in
-        let d = refused-0 binary32 b v e call gate t in
-        record {
-          done = λ w. absurd (true≢false (sym w ∙ ap isDone d));
-          pivot = λ i w. (cc, refused s z k, x-stays binary32 b v e call gate t, p-stays binary32 b v e call gate t);
-          only = inr d;
         }

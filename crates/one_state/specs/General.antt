@@ -1,13 +1,12 @@
 -- When a general correction at n = m = 1 and the correction of a record agree. Definitions only.
 use mathlib.Core.Path.{_≡_}
-use mathlib.Core.Bool.{true}
+use mathlib.Core.Bool.{true, false}
 use mathlib.Core.Logic.{_⊎_}
 use mathlib.Core.List.{List}
-use Prim.Native.Nat.{ℕ}
 use lib.ListN.{getD}
 use lib.Ieee.{Float, nan}
 use Rattle.answers.specs.declared.Answer.{Answer}
-use Rattle.answers.specs.declared.Answer.the-variants.{Done, Pivot}
+use Rattle.answers.specs.declared.Answer.the-variants.{Done, Pivot, NotFinite}
 use Rattle.answers.specs.Answers.{isDone}
 use Rattle.filters.specs.Lent.{Buffers}
 use Rattle.one_state.specs.declared.OneState.{OneState}
@@ -22,7 +21,7 @@ front l = getD l 0 nan
 pub record Agrees (s : OneState) (z : Float) (b : Buffers) (v : Answer) (e : Buffers) : Type 0 where
   -- where it is done the record comes back accepted, with the x and p that stand in front of its buffers, and no other member changed
   pub done : isDone v ≡ true → corrected s z ≡ Accepted (withXP s (front (e .x)) (front (e .P)))
-  -- where it is refused with 4 the pivot is 0, the record comes back refused and unchanged, and so are x and P
-  pub pivot : (i : ℕ) → v ≡ Pivot i → (i ≡ 0) × (corrected s z ≡ Refused s 0) × (e .x ≡ b .x) × (e .P ≡ b .P)
-  -- it answers nothing else
-  pub only : (v ≡ Done) ⊎ (v ≡ Pivot 0)
+  -- where it is refused the record comes back refused with the same answer, and unchanged, and so are x and P
+  pub refused : isDone v ≡ false → (corrected s z ≡ Refused s v) × (e .x ≡ b .x) × (e .P ≡ b .P)
+  -- the refusals are 4, of the pivot 0, and 9
+  pub only : (v ≡ Done) ⊎ ((v ≡ Pivot 0) ⊎ (v ≡ NotFinite))

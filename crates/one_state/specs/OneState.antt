@@ -1,8 +1,9 @@
 -- The filter of one yarn (R21), in the general filter's order of operations at n = m = 1. Definitions only.
-use mathlib.Core.Bool.{cond}
+use mathlib.Core.Bool.{Bool, cond, _&&_}
 use lib.Ieee.{Float, Format, binary32, add, sub, mul}
+use lib.Ieee.Scale.{finite}
 use Rattle.answers.specs.declared.Answer.{Answer}
-use Rattle.answers.specs.declared.Answer.the-variants.{Done, Pivot}
+use Rattle.answers.specs.declared.Answer.the-variants.{Done, Pivot, NotFinite}
 use Rattle.numbers.specs.Reciprocal.{one, recipOf}
 use Rattle.numbers.specs.Root.{sqrtOf}
 use Rattle.numbers.specs.Sums.{plus0}
@@ -60,20 +61,24 @@ abbrev pub renewed : OneState → Float → OneState
 renewed s z =
     record { x = correctedX binary32 (s .x) (s .p) (s .h) (s .r) z; p = correctedP binary32 (s .p) (s .h) (s .r); a = s .a; q = s .q; h = s .h; r = s .r }
 
--- a pivot that is refused hands the record back as it was, with index 0
+-- the record's x and p are finite
+abbrev pub finiteXP : OneState → Bool
+finiteXP s = finite (s .x) && finite (s .p)
+
+-- A pivot that is refused hands the record back as it was, with 4 and index 0; a new x or p that is not finite does so with 9.
 unfoldable pub corrected : OneState → Float → Corrected
-corrected s z = cond (pivotTaken (spread binary32 (s .h) (s .p) (s .r))) (Accepted (renewed s z)) (Refused s 0)
+corrected s z = cond (pivotTaken (spread binary32 (s .h) (s .p) (s .r))) (cond (finiteXP (renewed s z)) (Accepted (renewed s z)) (Refused s NotFinite)) (Refused s (Pivot 0))
 
 -- s with another x and p
 abbrev pub withXP : OneState → Float → Float → OneState
 withXP s x p = record { x = x; p = p; a = s .a; q = s .q; h = s .h; r = s .r }
 
--- ---- what a correction says: refusal 4 and the pivot's index, or done; and the record that it hands back
+-- ---- what a correction says: refusal 4 and the pivot's index, refusal 9, or done; and the record that it hands back
 
 abbrev pub answerOf : Corrected → Answer
 answerOf (Accepted s) = Done
-answerOf (Refused s i) = Pivot i
+answerOf (Refused s v) = v
 
 abbrev pub handedBack : Corrected → OneState
 handedBack (Accepted s) = s
-handedBack (Refused s i) = s
+handedBack (Refused s v) = s

@@ -2,6 +2,7 @@
 // filter's does, so −0 becomes +0.
 ghost use mathlib.Core.Path.{_≡_};
 ghost use Rattle.one_state.specs.OneState.{predicted, corrected};
+use answers::Answer;
 use pivots::Pivot;
 
 // Tension on one yarn: the estimate x and its spread p, the model a and q, the reading's h and r.
@@ -18,8 +19,8 @@ pub struct OneState {
 pub enum Corrected {
     // The record with the new x and p.
     Accepted(OneState),
-    // Refusal 4: the record unchanged, with the pivot's index, 0.
-    Refused(OneState, usize),
+    // Refused with 4, of the one pivot 0, or with 9: the record unchanged, and which it is.
+    Refused(OneState, Answer),
 }
 
 impl OneState {
@@ -38,7 +39,8 @@ impl OneState {
     }
 
     // The record with x and p as the reading z moves them; or the record unchanged, where the
-    // reading's spread S is not above zero, or not finite, NaN included.
+    // reading's spread S is not above zero, or not finite, NaN included (4), or where the new x or p
+    // is not finite (9).
     pub fn correct(self, z: f32) -> Corrected
         ensures { λ r. ⌜ r ≡ corrected self z ⌝ }
     {
@@ -58,9 +60,13 @@ impl OneState {
                 let mut next = self;
                 next.x = x + k * y;
                 next.p = p - khp;
-                Corrected::Accepted(next)
+                if finite::is_finite(next.x) && finite::is_finite(next.p) {
+                    Corrected::Accepted(next)
+                } else {
+                    Corrected::Refused(self, Answer::NotFinite)
+                }
             }
-            Pivot::Refused(_) => Corrected::Refused(self, 0),
+            Pivot::Refused(_) => Corrected::Refused(self, Answer::Pivot(0)),
         }
     }
 }

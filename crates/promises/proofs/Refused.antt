@@ -16,7 +16,7 @@ use Rattle.promises.proofs.Unchanged.{predict-x-unchanged, predict-p-un
 use Rattle.promises.specs.Formulas.{Matrix, Spreading}
 use Rattle.promises.specs.Runs.{State, state, SameFront, Run, left}
 
--- ---- corrections: x and P are as lent after a refusal of any number, 4 among them
+-- ---- corrections: x and P are as lent after a refusal of any number, 4 and 9 among them
 renewed-keeps : {f : Format} {n m : ℕ} {g v : Answer} {b e : Buffers} → Renewed f n m g v b e → isDone v ≡ false → (e .x ≡ b .x) × (e .P ≡ b .P)
 renewed-keeps h r = (rw r at (h .x-after), rw r at (h .P-after))
 

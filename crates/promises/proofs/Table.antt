@@ -4,12 +4,14 @@ use mathlib.Core.Bool.{true}
 use lib.Ieee.{add, sub, mul, div, neg, lt, ofBits, toBits}
 use Rattle.numbers.specs.Root.{sqrtOf}
 use Rattle.numbers.specs.Sums.{sumFrom}
+use Rattle.numbers.specs.Finite.{every}
 use Rattle.grids.specs.Grid.{run, grid}
 use Rattle.factors.specs.Pivots.{pivotTaken}
 use Rattle.factors.specs.Decomposition.{lessDot, factor, lastRecip, firstNot}
 use Rattle.factors.specs.Inverse.{plusSum, solved, back}
+use Rattle.one_state.specs.OneState.{corrected}
 use Rattle.promises.specs.Table.{table}
 
 pub checked : table ≡ true
-unfolding table sqrtOf sumFrom run grid pivotTaken lessDot factor lastRecip firstNot plusSum solved back add sub mul div neg lt ofBits toBits
+unfolding table corrected every sqrtOf sumFrom run grid pivotTaken lessDot factor lastRecip firstNot plusSum solved back add sub mul div neg lt ofBits toBits
 checked = refl

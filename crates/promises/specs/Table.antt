@@ -4,6 +4,7 @@ use mathlib.Core.List.{List, [], _∷_, map}
 use Prim.Native.Nat.{ℕ}
 use lib.Dec.{eqb}
 use lib.Ieee.{Float, binary32, ofBits, toBits}
+use Rattle.answers.specs.Answers.{numberOf}
 use Rattle.numbers.specs.Root.{sqrtOf}
 use Rattle.grids.specs.Grid.{cell, run, grid}
 use Rattle.entries.specs.Entries.{product, rowProduct}
@@ -11,7 +12,8 @@ use Rattle.factors.specs.Decomposition.{reached, decomposed}
 use Rattle.factors.specs.Inverse.{inverse}
 use Rattle.filters.specs.Prediction.{predictedX, tempP, predictedP}
 use Rattle.filters.specs.Correction.{innovationOf, residualOf, gainOf, newX, newP}
-use Rattle.one_state.specs.OneState.{spread, gain, correctedX, correctedP}
+use Rattle.filters.specs.Corrected.{finiteAnswer}
+use Rattle.one_state.specs.OneState.{spread, gain, correctedX, correctedP, corrected, answerOf}
 
 -- ---- how a line is read
 
@@ -60,10 +62,22 @@ only b r c = ofBits binary32 b
 abbrev alone : ℕ → ℕ → Float
 alone b k = ofBits binary32 b
 
+-- x, P, H, R and z of a correction of one state by one observation, with pivots that are taken: the last test answers this number
+unfoldable pub tests : ℕ → ℕ → ℕ → ℕ → ℕ → ℕ → Bool
+tests x p h r z number =
+    let K = gainOf binary32 1 1 (only h) (only p) (only r) (only 0x7fc00000) in
+    eqb (numberOf (finiteAnswer 1 (newX binary32 1 K (alone x) (innovationOf binary32 1 (only h) (alone x) (alone z))) (newP binary32 1 1 K (only h) (only p)))) number
+
+-- the record x, p, h, r, its model apart, corrected by the reading z answers this number
+unfoldable pub says : ℕ → ℕ → ℕ → ℕ → ℕ → ℕ → Bool
+says x p h r z number =
+    let of = ofBits binary32 in
+    eqb (numberOf (answerOf (corrected (record { x = of x; p = of p; a = of 0x3f800000; q = of 0; h = of h; r = of r }) (of z)))) number
+
 -- ---- the table
 
 unfoldable pub table : Bool
-unfolding has are leaves inverts
+unfolding has are leaves inverts tests says
 table =
     -- roots of 4 and 2
     has (sqrtOf binary32 (ofBits binary32 0x40800000)) 0x40000000
@@ -108,6 +122,23 @@ table =
     && has (gain binary32 (ofBits binary32 0x3f800000) (ofBits binary32 0x40400000) (ofBits binary32 0x3f800000)) 0x3f400000
     && has (correctedX binary32 (ofBits binary32 0x3f800000) (ofBits binary32 0x40400000) (ofBits binary32 0x3f800000) (ofBits binary32 0x3f800000) (ofBits binary32 0x40a00000)) 0x40800000
     && has (correctedP binary32 (ofBits binary32 0x40400000) (ofBits binary32 0x3f800000) (ofBits binary32 0x3f800000)) 0x3f400000
+    -- the same by readings that are NaN, +∞ and −∞: refused with 9; by the largest number it is done
+    && tests 0x3f800000 0x40400000 0x3f800000 0x3f800000 0x40a00000 0
+    && tests 0x3f800000 0x40400000 0x3f800000 0x3f800000 0x7fc00000 9
+    && tests 0x3f800000 0x40400000 0x3f800000 0x3f800000 0x7f800000 9
+    && tests 0x3f800000 0x40400000 0x3f800000 0x3f800000 0xff800000 9
+    && tests 0x3f800000 0x40400000 0x3f800000 0x3f800000 0x7f7fffff 0
+    && says 0x3f800000 0x40400000 0x3f800000 0x3f800000 0x40a00000 0
+    && says 0x3f800000 0x40400000 0x3f800000 0x3f800000 0x7fc00000 9
+    && says 0x3f800000 0x40400000 0x3f800000 0x3f800000 0x7f800000 9
+    && says 0x3f800000 0x40400000 0x3f800000 0x3f800000 0xff800000 9
+    && says 0x3f800000 0x40400000 0x3f800000 0x3f800000 0x7f7fffff 0
+    -- by NaN with R = −5, or with R infinite: 4 comes first
+    && says 0x3f800000 0x40400000 0x3f800000 0xc0a00000 0x7fc00000 4
+    && says 0x3f800000 0x40400000 0x3f800000 0x7f800000 0x7fc00000 4
+    -- an x that is +∞ already, and a p: 9, and 4
+    && says 0x7f800000 0x40400000 0x3f800000 0x3f800000 0x40a00000 9
+    && says 0x3f800000 0x7f800000 0x3f800000 0x3f800000 0x40a00000 4
     -- −1 times +0, without and with a +0 in front
     && has (rowProduct binary32 1 (values (0xbf800000 ∷ [])) (values (0x00000000 ∷ [])) 0) 0x80000000
     && has (product binary32 1 1 (values (0xbf800000 ∷ [])) (values (0x00000000 ∷ [])) 0 0) 0x00000000

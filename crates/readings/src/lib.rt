@@ -6,8 +6,9 @@ ghost use Rattle.filters.specs.Corrected.{Corrected};
 use answers::Answer;
 
 // x and P after the observation z, with its innovation in y, the gain in K and the lower factor of
-// the residual's covariance in S; or the first pivot of S that is not above zero, or not finite, NaN
-// included, is named, and x and P are as lent.
+// the residual's covariance in S. Or the first pivot of S that is not above zero, or not finite, NaN
+// included, is named, or it is said that the new x or P is not all finite, as after a NaN in z; then x
+// and P are as lent.
 pub fn correct(
     n: usize,
     m: usize,

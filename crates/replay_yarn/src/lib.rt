@@ -84,6 +84,6 @@ pub fn correct(s: &[u8], at: usize, h: Shape) -> Seen
     let yarn = lent.yarn;
     match yarn.correct(head.u) {
         Corrected::Accepted(next) => met(s, lent.next, Answer::Done, next),
-        Corrected::Refused(same, i) => met(s, lent.next, Answer::Pivot(i), same),
+        Corrected::Refused(same, why) => met(s, lent.next, why, same),
     }
 }

@@ -11,7 +11,7 @@ use Rattle.shift.specs.declared.readings.Reading.the-variants.{Arrived, 
 abbrev pub noiseIn : ℕ → Float
 noiseIn n = cond (eqb n 11) nan (cond (eqb n 15) (inf false) (ofBits binary32 0x40800000))
 
--- nothing arrives in step 6, and in each other step a reading with its noise
+-- nothing arrives in step 6, and in each other step a reading with its noise; in step 13 it is not a number
 abbrev pub Brings : ℕ → Reading → Type 0
 Brings n Lost = n ≡ 6
-Brings n (Arrived z r) = (n ≡ 6 → ⊥) × (r ≡ noiseIn n)
+Brings n (Arrived z r) = (n ≡ 6 → ⊥) × (r ≡ noiseIn n) × (n ≡ 13 → z ≡ nan)

@@ -36,7 +36,8 @@ const TENSION: [f32; 18] = [
 ];
 
 // What the wire brings in a step, counted from 0. It is dropped in step 6; with the reading of step 11
-// comes a noise that is not a number, and with that of step 15 one that is infinite.
+// comes a noise that is not a number, and with that of step 15 one that is infinite; in step 13 the
+// reading itself is not a number.
 pub fn arriving(step: usize) -> Reading
     requires { ⌜ step < 18 ⌝ }
     ensures { λ g. ⌜ Brings step g ⌝ }
@@ -44,6 +45,7 @@ pub fn arriving(step: usize) -> Reading
     match step {
         6 => Reading::Lost,
         11 => Reading::Arrived(TENSION[step], 0.0 / 0.0),
+        13 => Reading::Arrived(0.0 / 0.0, 4.0),
         15 => Reading::Arrived(TENSION[step], 1.0 / 0.0),
         _ => Reading::Arrived(TENSION[step], 4.0),
     }

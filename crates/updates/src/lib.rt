@@ -1,13 +1,13 @@
 // The steps of a correction, for the crates above, which have tested sizes and buffers; not for users:
-// the innovation, the residual's covariance, the gain, and x and P anew.
+// the innovation, the residual's covariance, the gain. The last one is that of `renewals`.
 ghost use mathlib.Core.Path.{_≡_};
 ghost use Prim.Native.Nat.{_*_, _≤_};
 ghost use lib.ListN.{length};
-ghost use lib.Ieee.{binary32, sub};
+ghost use lib.Ieee.{binary32};
 ghost use Rattle.grids.specs.Grid.{cell, run, grid};
 ghost use Rattle.entries.specs.Entries.{times, numbers};
 ghost use Rattle.factors.specs.Inverse.{inverse};
-ghost use Rattle.filters.specs.Correction.{innovationOf, HPOf, factorOf, pivotOf, PHtOf, newX};
+ghost use Rattle.filters.specs.Correction.{innovationOf, HPOf, factorOf, pivotOf, PHtOf};
 
 // y = z − H·x.
 pub fn innovate_cells(n: usize, m: usize, x: &[f32], h: &[f32], z: &[f32], y: &mut [f32])
@@ -59,25 +59,4 @@ pub fn gain_cells(
     inverse::cores::invert_cells(m, s, temp_s_inv);
     times_transpose::transb_cells(n, n, m, p, h, temp_pht);
     times_matrix::mult_cells(n, m, m, temp_pht, temp_s_inv, k);
-}
-
-// x = x + K·y, temp_KHP = K·temp_HP, and P = P − temp_KHP.
-pub fn renew_cells(
-    n: usize,
-    m: usize,
-    x: &mut [f32],
-    p: &mut [f32],
-    y: &[f32],
-    k: &[f32],
-    temp_hp: &[f32],
-    temp_khp: &mut [f32],
-)
-    requires { ⌜ (1 ≤ m) × (n ≤ length (now x)) × (n * n ≤ length (now p)) × (m ≤ length (now y)) × (n * m ≤ length (now k)) × (m * n ≤ length (now «temp_hp»)) × (n * n ≤ length (now «temp_khp»)) ⌝ }
-    ensures x { λ _. ⌜ now (x .exit) ≡ run 0 n (newX binary32 m (cell m (now (k .entry))) (numbers (now (x .entry))) (numbers (now (y .entry)))) (now (x .entry)) ⌝ }
-    ensures khp { λ _. ⌜ now («temp_khp» .exit) ≡ grid n n (times binary32 m (cell m (now (k .entry))) (cell n (now («temp_hp» .entry)))) (now («temp_khp» .entry)) ⌝ }
-    ensures p { λ _. ⌜ now (p .exit) ≡ grid n n (λ i j. sub binary32 (cell n (now (p .entry)) i j) (times binary32 m (cell m (now (k .entry))) (cell n (now («temp_hp» .entry))) i j)) (now (p .entry)) ⌝ }
-{
-    times_vector::rowvector_add_cells(n, m, k, y, x);
-    times_matrix::mult_cells(n, m, n, k, temp_hp, temp_khp);
-    sums::cores::sub_cells_a(n * n, p, temp_khp);
 }

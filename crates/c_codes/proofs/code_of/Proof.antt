@@ -2,7 +2,7 @@
 use native.Mathlib.Omega.{arith}
 use borrow.Author.Needs.{needs}
 use Rattle.c_codes.specs.Code.{codeOf}
-use Rattle.c_codes.proofs.Codes.{at-most-4}
+use Rattle.c_codes.proofs.Codes.{at-most-9}
 use Rattle.c_codes.proofs.code_of.Statement.{statement}
 use Rattle.c_codes.proofs.code_of.Tie as tie
 
@@ -10,7 +10,7 @@ number-of-requires : tie.Need-number-of-requires
 number-of-requires c κs = search needs
 
 mul-result : tie.Need-mul-result
-mul-result c = omega (arith, at-most-4 (c .before .args .v))
+mul-result c = omega (arith, at-most-9 (c .before .args .v))
 
 carried-by-requires : tie.Need-carried-by-requires
 carried-by-requires c κs = search needs
@@ -19,7 +19,7 @@ two-digits-requires : tie.Need-two-digits-requires
 two-digits-requires c κs = search needs
 
 add-result : tie.Need-add-result
-add-result c = omega (arith, at-most-4 (c .before .before .before .args .v))
+add-result c = omega (arith, at-most-9 (c .before .before .before .args .v))
 
 returns : tie.Need-returns
 unfolding codeOf

@@ -1,4 +1,4 @@
--- `correct` meets its contract, by its three ways out: the buffer is short, S is refused, x and p are stored. Assumes nothing.
+-- `correct` meets its contract, by its three ways out: the buffer is short, the record comes back refused, x and p are stored. Assumes nothing.
 use mathlib.Core.Path.{sym, ap, _∙_}
 use denote.Ref.{now}
 use Rattle.answers.proofs.Kept.{accepted as accepted-by}
@@ -27,8 +27,8 @@ enum-known-next c = search needs
 store-requires : tie.Need-store-requires
 store-requires c κs = holds-six _ (accepted-by (c .before .before .before .before .before .before .before .before .before .then-buffer .ensures) (c .before .before .before .before .before .before .before .before .is-done .ensures) (c .before .before .before .before .before .before .before .if1 .taken))
 
-enum-known-i : tie.Need-enum-known-i
-enum-known-i c = search needs
+enum-known-why : tie.Need-enum-known-why
+enum-known-why c = search needs
 
 same-length : tie.Need-same-length
 same-length c = search needs
@@ -37,7 +37,7 @@ returns : tie.Need-returns
 returns c =
     let a = c .before .before .before .before .before .before .before .before .before .before .args in
     refused (now (a .yarn)) (a .z) _ (c .before .before .before .before .before .before .before .before .then-buffer .ensures) _ _ (sym (c .before .before .before .before .before .before .before .is-done .ensures) ∙ c .before .before .before .before .before .before .if1 .taken)
-    (sym (ap (λ (s : OneState). corrected s (a .z)) (c .before .before .before .before .load .ensures)) ∙ sym (c .before .before .before .correct .ensures) ∙ c .before .i .given .1)
+    (sym (ap (λ (s : OneState). corrected s (a .z)) (c .before .before .before .before .load .ensures)) ∙ sym (c .before .before .before .correct .ensures) ∙ c .before .why .given .1)
 
 same-length-2 : tie.Need-same-length-2
 same-length-2 c = search needs
@@ -63,7 +63,7 @@ correct-spec =
     correct-requires
     enum-known-next
     store-requires
-    enum-known-i
+    enum-known-why
     same-length
     returns
     same-length-2

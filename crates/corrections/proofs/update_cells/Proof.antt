@@ -1,4 +1,4 @@
--- `update_cells` meets its contract: what its three steps leave, by the laws of a refused pivot and of pivots that are taken. Assumes nothing.
+-- `update_cells` meets its contract: what its three steps leave, by the laws of a refused pivot and of pivots that are taken; the last step's answer is the call's. Assumes nothing.
 use mathlib.Core.Path.{refl}
 use native.Mathlib.Omega.{arith}
 use Rattle.filters.proofs.Calls.{pivot-refused, pivots-taken}
@@ -73,7 +73,7 @@ returns-2 c =
     let r = tested .residual-cells .ensures in
     let g = gained .gain-cells .ensures in
     let w = renewed .renew-cells .ensures in
-    pivots-taken _ _ _ _ _ (held .S-holds) (held .K-holds) (held .HP-holds) (r .1 .0) (r .1 .1) _ (gained .before .before .before .before .before .before .if1 .left) (r .0) (g .0) (g .1 .0) (g .1 .1) (w .0) (w .1 .0) (w .1 .1)
+    pivots-taken _ _ _ _ _ (held .S-holds) (held .K-holds) (held .HP-holds) (r .1 .0) (r .1 .1) _ _ (gained .before .before .before .before .before .before .if1 .left) (r .0) (g .0) (g .1 .0) (g .1 .1) (w .0) (w .1 .0) (w .1 .1 .0) (w .1 .1 .1)
 
 pub update-cells-spec : {M : Type 1} → statement M
 update-cells-spec =

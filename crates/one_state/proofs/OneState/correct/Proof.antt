@@ -1,8 +1,10 @@
--- `OneState::correct` meets its contract, by the two cases of its pivot: d is the reciprocal of S's root, for that is what an accepted pivot carries. Assumes nothing.
+-- `OneState::correct` meets its contract, by the cases of its pivot and of the test of the new x and p: d is the reciprocal of S's root, for that is what an accepted pivot carries (`proofs/Cases.antt`).
+-- Assumes nothing.
 use mathlib.Core.Path.{sym, _∙_}
+use mathlib.Core.Logic.{⊎-elim}
 use borrow.Author.Needs.{needs}
 use lib.Ieee.{binary32, ofBits}
-use Rattle.one_state.proofs.Cases.{accepts, refuses, accepted, refused}
+use Rattle.one_state.proofs.Cases.{refuses, refused, goes-through, comes-back-x, comes-back-p}
 use Rattle.one_state.proofs.OneState.correct.Statement.{statement}
 use Rattle.one_state.proofs.OneState.correct.Tie as tie
 
@@ -12,23 +14,51 @@ pivot-of-requires c κs = search needs
 enum-known-d : tie.Need-enum-known-d
 enum-known-d c = search needs
 
+is-finite-requires : tie.Need-is-finite-requires
+is-finite-requires c κs = search needs
+
+is-finite-requires-2 : tie.Need-is-finite-requires-2
+is-finite-requires-2 c κs = search needs
+
 enum-told : tie.Need-enum-told
 enum-told c = search needs
 
 returns : tie.Need-returns
 unfolding ofBits
 returns c =
-    let b = c .before .before .before in
+    let b = c .before .before .before .before .before .before .before in
     let m = b .before .before .args in
-    let k = accepts binary32 _ _ _ (sym (b .pivot-of .ensures) ∙ c .before .d .given .1) in
-    rw (k .1) (sym (accepted (m .self) (m .z) (k .0)))
+    let tested = c .before .before .before in
+    goes-through (m .self) (m .z) _ _ (sym (b .pivot-of .ensures) ∙ tested .before .before .d .given .1) _ _ (tested .is-finite .ensures) (c .before .is-finite2 .ensures) (c .before .before .if1 .taken) (c .if2 .taken)
 
 returns-2 : tie.Need-returns-2
 unfolding ofBits
 returns-2 c =
+    let b = c .before .before .before .before .before in
+    let m = b .before .before .args in
+    let tested = c .before in
+    let step = sym (b .pivot-of .ensures) ∙ tested .before .before .d .given .1 in
+    ⊎-elim
+    (λ w. comes-back-p (m .self) (m .z) _ _ step _ _ (tested .is-finite .ensures) (w .1 .ensures) (w .0 .taken) (w .2 .left))
+    (λ w. comes-back-x (m .self) (m .z) _ _ step _ (tested .is-finite .ensures) (w .left))
+    (c .if1 .came)
+
+returns-3 : tie.Need-returns-3
+unfolding ofBits
+returns-3 c =
     let b = c .before .before in
     let m = b .before .before .args in
     sym (refused (m .self) (m .z) (refuses binary32 _ _ (sym (b .pivot-of .ensures) ∙ c .enum-told .given .1)))
 
 pub correct-spec : {M : Type 1} → statement M
-correct-spec = tie.close (tie.spec pivot-of-requires enum-known-d enum-told returns returns-2)
+correct-spec =
+    tie.close
+    (tie.spec
+    pivot-of-requires
+    enum-known-d
+    is-finite-requires
+    is-finite-requires-2
+    enum-told
+    returns
+    returns-2
+    returns-3)

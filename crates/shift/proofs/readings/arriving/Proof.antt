@@ -24,35 +24,44 @@ mul-t4 c = search needs
 array-read-t7 : tie.Need-array-read-t7
 array-read-t7 c = search needs
 
-mul-t10 : tie.Need-mul-t10
-mul-t10 c = search needs
+mul-t11 : tie.Need-mul-t11
+mul-t11 c = search needs
 
-array-read-t13 : tie.Need-array-read-t13
-array-read-t13 c = search needs
+array-read-t14 : tie.Need-array-read-t14
+array-read-t14 c = search needs
 
-mul-t16 : tie.Need-mul-t16
-mul-t16 c = search needs
+mul-t17 : tie.Need-mul-t17
+mul-t17 c = search needs
 
-array-read-t19 : tie.Need-array-read-t19
-array-read-t19 c = search needs
+array-read-t20 : tie.Need-array-read-t20
+array-read-t20 c = search needs
 
 returns : tie.Need-returns
 returns c = search needs
 
 returns-2 : tie.Need-returns-2
-returns-2 c = (λ h. omega (arith, c .match .keys2), rw (eq-eqb (c .before .args .step) 11 (c .match .keys2)) quotient)
+returns-2 c =
+    let n = c .before .args .step in
+    let at : n ≡ 11 = c .match .keys2 in
+    (λ h. omega arith, rw (eq-eqb n 11 at) quotient, λ h. absurd (omega arith))
 
 returns-3 : tie.Need-returns-3
 returns-3 c =
     let n = c .before .args .step in
-    let at : n ≡ 15 = c .match .keys3 in
-    (λ h. omega arith, rw (ne-eqb n 11 (λ h. omega arith), eq-eqb n 15 at) infinite)
+    let at : n ≡ 13 = c .match .keys3 in
+    (λ h. omega arith, rw (ne-eqb n 11 (λ h. omega arith), ne-eqb n 15 (λ h. omega arith)), λ h. quotient)
 
 returns-4 : tie.Need-returns-4
 returns-4 c =
     let n = c .before .args .step in
+    let at : n ≡ 15 = c .match .keys4 in
+    (λ h. omega arith, rw (ne-eqb n 11 (λ h. omega arith), eq-eqb n 15 at) infinite, λ h. absurd (omega arith))
+
+returns-5 : tie.Need-returns-5
+returns-5 c =
+    let n = c .before .args .step in
     let others = c .match .rest in
-    (others .0 .0 .1, rw (ne-eqb n 11 (others .0 .1), ne-eqb n 15 (others .1)))
+    (others .0 .0 .0 .1, rw (ne-eqb n 11 (others .0 .0 .1), ne-eqb n 15 (others .1)), λ h. absurd (others .0 .1 h))
 
 pub arriving-spec : {M : Type 1} → statement M
 arriving-spec =
@@ -60,11 +69,12 @@ arriving-spec =
     (tie.spec
     mul-t4
     array-read-t7
-    mul-t10
-    array-read-t13
-    mul-t16
-    array-read-t19
+    mul-t11
+    array-read-t14
+    mul-t17
+    array-read-t20
     returns
     returns-2
     returns-3
-    returns-4)
+    returns-4
+    returns-5)
