@@ -12,7 +12,7 @@ use Rattle.answers.specs.declared.Answer.the-variants.{Done, NotFinite}
 use Rattle.answers.specs.Answers.{numberOf, isDone, firstOf}
 use Rattle.answers.proofs.Asked.{goes-on, stops}
 use Rattle.numbers.specs.Finite.{allFinite, entriesFinite}
-use Rattle.numbers.proofs.Every.{first-holds, second-holds, holds-at, holds-everywhere, fails-at, fails-somewhere, every-same}
+use Rattle.numbers.proofs.Every.{first-holds, second-holds, then-fails, holds-at, holds-everywhere, fails-at, fails-somewhere, every-same}
 use Rattle.grids.specs.Grid.{SameEntries}
 use Rattle.filters.specs.Corrected.{finiteAnswer}
 use Rattle.filters.specs.Outcomes.{EachFinite, SomeNotFinite}
@@ -92,11 +92,8 @@ module _ (n : ℕ) (x : ℕ → Float) (P : ℕ → ℕ → Float) where
   pub not-some : SomeNotFinite n x P → allFinite n x && entriesFinite n P ≡ false
   not-some (inl w) = rw (fails-somewhere n (λ r. finite (x r)) (w .0) (w .1) (w .2))
   not-some (inr w) =
-      at-last (allFinite n x) (fails-somewhere n (λ r. allFinite n (P r)) (w .0) (w .2) (fails-somewhere n (λ c. finite (P (w .0) c)) (w .1) (w .3) (w .4)))
-    where
-      at-last : (a : Bool) {b : Bool} → b ≡ false → a && b ≡ false
-      at-last true e = e
-      at-last false e = refl
+      then-fails (allFinite n x) (entriesFinite n P)
+      (fails-somewhere n (λ r. allFinite n (P r)) (w .0) (w .2) (fails-somewhere n (λ c. finite (P (w .0) c)) (w .1) (w .3) (w .4)))
 
 -- the test goes by the numbers and entries within n alone
 pub finite-alike : (n : ℕ) (x y : ℕ → Float) (P Q : ℕ → ℕ → Float) → ((r : ℕ) → r < n → x r ≡ y r) → SameEntries n n P Q → finiteAnswer n x P ≡ finiteAnswer n y Q

@@ -6,19 +6,17 @@ use native.Mathlib.Numerals.{add-one}
 use native.Mathlib.Omega.{arith}
 use borrow.Author.Tests.{not-true, not-false}
 use Rattle.numbers.specs.Finite.{every}
+use Rattle.numbers.proofs.Every.{then-fails}
 
 -- `all` says whether the first i of n numbers pass the test
 pub record Testing (p : ℕ → Bool) (n : ℕ) (all : Bool) (i : ℕ) : Type 0 where
   pub within : i ≤ n
   pub verdict : all ≡ every i p
 
+-- a test that holds changes nothing
 with-true : (a b : Bool) → b ≡ true → a ≡ a && b
 with-true true b e = sym e
 with-true false b e = refl
-
-with-false : (a b : Bool) → b ≡ false → false ≡ a && b
-with-false true b e = sym e
-with-false false b e = refl
 
 module _ {p : ℕ → Bool} {n : ℕ} where
   -- at first
@@ -37,7 +35,7 @@ module _ {p : ℕ → Bool} {n : ℕ} where
   module _ {all all' r : Bool} {i : ℕ} (t : Testing p n all i) (below : i < n) (told : r ≡ p i) where
     pub one-failed : not r ≡ true → all' ≡ false → Testing p n all' (i + 1)
     unfolding every
-    one-failed q e = record { within = omega arith; verdict = rw add-one (e ∙ with-false (every i p) (p i) (sym told ∙ not-true r q)) }
+    one-failed q e = record { within = omega arith; verdict = rw add-one (e ∙ sym (then-fails (every i p) (p i) (sym told ∙ not-true r q))) }
 
     pub one-passed : not r ≡ false → all' ≡ all → Testing p n all' (i + 1)
     unfolding every

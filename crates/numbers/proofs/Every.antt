@@ -17,7 +17,7 @@ pub second-holds : (a b : Bool) → a && b ≡ true → b ≡ true
 second-holds true b e = e
 second-holds false b e = absurd (true≢false (sym e))
 
-then-fails : (a b : Bool) → b ≡ false → a && b ≡ false
+pub then-fails : (a b : Bool) → b ≡ false → a && b ≡ false
 then-fails true b e = e
 then-fails false b e = refl
 

@@ -10,6 +10,7 @@ use lib.Ieee.{Float, nan, inf, fin, Format, binary32, binary64, up, down, unlike
 use lib.Ieee.Fits.{down-pos}
 use lib.Ieee.Scale.{finite, round-same}
 use Rattle.numbers.specs.Sums.{plus0, sumFrom, sumFirst}
+use Rattle.numbers.proofs.Every.{then-fails}
 
 -- a sum one of whose terms is not finite
 sum-not-finite : (f : Format) (x y : Float) → finite x && finite y ≡ false → finite (add f x y) ≡ false
@@ -32,11 +33,7 @@ not-finite-plus f x y h = sum-not-finite f x y (rw h refl)
 
 -- .. when it is added to something ..
 pub plus-not-finite : (f : Format) (x y : Float) → finite y ≡ false → finite (add f x y) ≡ false
-plus-not-finite f x y h = sum-not-finite f x y (rw h (at-last (finite x)))
-  where
-    at-last : (b : Bool) → b && false ≡ false
-    at-last true = refl
-    at-last false = refl
+plus-not-finite f x y h = sum-not-finite f x y (then-fails (finite x) (finite y) h)
 
 -- .. and when something is taken from it.
 pub not-finite-less : (f : Format) (x y : Float) → finite x ≡ false → finite (sub f x y) ≡ false
@@ -45,34 +42,27 @@ not-finite-less f x y h = sum-not-finite f x (neg y) (rw h refl)
 
 -- ---- products, and sums of them
 
--- a product one of whose factors is not finite: zero times an infinity is a NaN
+-- zero times an infinity is a NaN, and any other number times it an infinity
+nan-or-inf : (none s : Bool) → finite (cond none nan (inf s)) ≡ false
+nan-or-inf true s = refl
+nan-or-inf false s = refl
+
+-- a product one of whose factors is not finite
 product-not-finite : (f : Format) (x y : Float) → finite x && finite y ≡ false → finite (mul f x y) ≡ false
 unfolding mul
 product-not-finite f nan y h = refl
 product-not-finite f (inf s) nan h = refl
 product-not-finite f (inf s) (inf t) h = refl
-product-not-finite f (inf s) (fin t n d) h = either (eqb n 0) (unlike s t)
-  where
-    either : (b r : Bool) → finite (cond b nan (inf r)) ≡ false
-    either true r = refl
-    either false r = refl
+product-not-finite f (inf s) (fin t n d) h = nan-or-inf (eqb n 0) (unlike s t)
 product-not-finite f (fin s m e) nan h = refl
-product-not-finite f (fin s m e) (inf t) h = either (eqb m 0) (unlike s t)
-  where
-    either : (b r : Bool) → finite (cond b nan (inf r)) ≡ false
-    either true r = refl
-    either false r = refl
+product-not-finite f (fin s m e) (inf t) h = nan-or-inf (eqb m 0) (unlike s t)
 product-not-finite f (fin s m e) (fin t n d) h = absurd (true≢false h)
 
 pub not-finite-times : (f : Format) (x y : Float) → finite x ≡ false → finite (mul f x y) ≡ false
 not-finite-times f x y h = product-not-finite f x y (rw h refl)
 
 pub times-not-finite : (f : Format) (x y : Float) → finite y ≡ false → finite (mul f x y) ≡ false
-times-not-finite f x y h = product-not-finite f x y (rw h (at-last (finite x)))
-  where
-    at-last : (b : Bool) → b && false ≡ false
-    at-last true = refl
-    at-last false = refl
+times-not-finite f x y h = product-not-finite f x y (then-fails (finite x) (finite y) h)
 
 -- a sum whose start is not finite, or one of whose terms is not
 pub from-not-finite : (f : Format) (start : Float) (t : ℕ → Float) (n : ℕ) → finite start ≡ false → finite (sumFrom f start t n) ≡ false

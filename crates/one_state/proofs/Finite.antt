@@ -8,6 +8,7 @@ use lib.Ieee.{Float, binary32}
 use lib.Ieee.Scale.{finite}
 use Rattle.answers.specs.declared.Answer.{Answer}
 use Rattle.answers.specs.declared.Answer.the-variants.{Pivot, NotFinite}
+use Rattle.numbers.proofs.Every.{then-fails}
 use Rattle.numbers.proofs.NotFinite.{not-finite-plus, plus-not-finite, not-finite-less, not-finite-times, times-not-finite}
 use Rattle.numbers.specs.Sums.{plus0}
 use Rattle.factors.specs.Pivots.{pivotTaken}
@@ -20,11 +21,7 @@ use Rattle.one_state.proofs.Cases.{accepted, not-finite, refused}
 -- one of two tests fails, and with it one of two others
 carries : (a b c d : Bool) → (a ≡ false → c ≡ false) → (b ≡ false → d ≡ false) → a && b ≡ false → c && d ≡ false
 carries false b c d f g e = ap (λ (t : Bool). t && d) (f refl)
-carries true false c d f g e = rw (g refl) (at-last c)
-  where
-    at-last : (t : Bool) → t && false ≡ false
-    at-last true = refl
-    at-last false = refl
+carries true false c d f g e = then-fails c d (g refl)
 carries true true c d f g e = absurd (true≢false e)
 
 -- an accepted record is no refused one
