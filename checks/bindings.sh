@@ -31,21 +31,23 @@ run() { # NAME COMMAND..
 # ---- the lists of functions
 
 # 'yurgamysh_get S,S,S,C,S,S,S,M': the kinds of the result and the parameters, S a size, C and M floats
-# that are read and written, F a float.
+# that are read and written, F a float, Y a yarn's record that is written, V nothing. A function that has
+# a body in the header is none of these.
 header_signatures() {
     tr '\n' ' ' <include/yurgamysh.h |
         sed 's|/\*[^*]*\*\{1,\}\([^/*][^*]*\*\{1,\}\)*/||g' |
-        grep -oE '(size_t|float) yurgamysh_[a-z_]+\([^)]*\);' |
-        sed -E 's/^(size_t|float) (yurgamysh_[a-z_]+)\((.*)\);$/\2 \1 r, \3/
-            s/const float \*[a-z_]+/C/g; s/float \*[a-z_]+/M/g; s/size_t [a-z_]+/S/g; s/float [a-z_]+/F/g
-            s/ +/ /g; s/, */,/g' | sort
+        grep -oE '(size_t|float|void) yurgamysh_[a-z_]+\([^)]*\);' |
+        sed -E 's/^(size_t|float|void) (yurgamysh_[a-z_]+)\((.*)\);$/\2 \1 r, \3/
+            s/const float \*[a-z_]+/C/g; s/float \*[a-z_]+/M/g; s/yurgamysh_one_state \*[a-z_]+/Y/g
+            s/size_t [a-z_]+/S/g; s/float [a-z_]+/F/g; s/void [a-z_]+/V/g; s/ +/ /g; s/, */,/g' | sort
 }
 
 rust_signatures() {
     tr '\n' ' ' <bindings/rust/src/sys.rs |
-        grep -oE 'fn yurgamysh_[a-z_]+\([^)]*\) -> [a-z0-9]+;' |
-        sed -E 's/^fn (yurgamysh_[a-z_]+)\((.*)\) -> (.*);$/\1 r: \3, \2/
-            s/[a-z_]+: \*const f32/C/g; s/[a-z_]+: \*mut f32/M/g; s/[a-z_]+: usize/S/g; s/[a-z_]+: f32/F/g
+        grep -oE 'fn yurgamysh_[a-z_]+\([^)]*\)( -> [a-z0-9]+)?;' |
+        sed -E 's/\);$/) -> void;/; s/^fn (yurgamysh_[a-z_]+)\((.*)\) -> (.*);$/\1 r: \3, \2/
+            s/[a-z_]+: \*const f32/C/g; s/[a-z_]+: \*mut f32/M/g; s/[a-z_]+: \*mut OneState/Y/g
+            s/[a-z_]+: usize/S/g; s/[a-z_]+: f32/F/g; s/[a-z_]+: void/V/g
             s/ +/ /g; s/, */,/g; s/,$//' | sort
 }
 
@@ -95,9 +97,21 @@ test_language() { # COMPILER WORDS..
         checks/c/examples.c checks/c/inputs.c checks/c/model.c checks/c/room.c \
         -x none "$archive" -lm -o "$out/test" &&
         run "$*" "$out/test" && ok "$*: $(tail -n 1 "$out/said")"
+    test_example one_yarn 'x is 4, P is 0.75' "$@"
+    test_example blind_feeder '36.06 cN, blind 0
+36.06 cN, blind 1
+36.06 cN, blind 2
+36.06 cN, blind 3: see to it
+36.03 cN, blind 0' "$@"
+}
+
+# An example that README.md shows says this.
+test_example() { # NAME TEXT COMPILER WORDS..
+    example=$1 text=$2
+    shift 2
     # shellcheck disable=SC2086
-    run "compiling the example, $*" "$@" $warnings -Iinclude checks/c/one_yarn.c -x none "$archive" -o "$out/example" &&
-        run "the example, $*" "$out/example" && said_is "the example, $*" 'x is 4, P is 0.75'
+    run "compiling $example, $*" "$@" $warnings -Iinclude "checks/c/$example.c" -x none "$archive" -o "$out/example" &&
+        run "$example, $*" "$out/example" && said_is "$example, $*" "$text"
 }
 
 said_is() { # NAME TEXT
@@ -181,11 +195,14 @@ if [ -z "$built" ]; then
 elif [ -f "$archive" ]; then
     compare_lists
     test_language gcc -std=c99
+    test_language gcc -std=c11
     test_language g++ -std=c++11 -x c++
     test_language clang -std=c99
+    test_language clang -std=c11
     test_language clang++ -std=c++11 -x c++
     test_rust
     shown checks/c/one_yarn.c
+    shown checks/c/blind_feeder.c
     shown bindings/rust/examples/one_yarn.rs
 else
     bad "there is no $archive: sh lib/build.sh makes it"

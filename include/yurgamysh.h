@@ -10,7 +10,8 @@
      (a length of 0 asks for nothing: the pointer may be NULL);
    - a buffer that the call writes (its pointer is not const) shares no memory with another of the
      same call; buffers that are only read may share;
-   - `value` of yurgamysh_get points to one float, always;
+   - `value` of yurgamysh_get points to one float, and `yarn` to one record, always: NULL is not
+     allowed there;
    - the processor rounds to nearest and keeps subnormals, as it does when a program starts. Sums,
      products and quotients are its own instructions and follow its mode, so whoever set another one
      (MXCSR on x86-64, FPCR on Arm) puts it back before a call. Else other bits come; and with
@@ -19,7 +20,8 @@
 
    What the caller need not care about: any sizes, any lengths, any rows and columns, and any floats,
    infinities and NaN among them. Such a call answers or refuses. No call allocates, fails to return,
-   or keeps a pointer; two threads may call at the same time, each with its own written buffers.
+   or keeps a pointer; two threads may call at the same time, each with its own written buffers and
+   records.
 
    Stack that a call takes, its parameters included, as measured on x86-64: a prediction about 1.5 kB
    at every size, a correction 1.9 kB at n = m = 1 and 2.1 kB at n = m = 16. Half of it or more is room
@@ -42,7 +44,8 @@
                                      infinity or a NaN                               the rest as done
 
    They are tested in this order. Sizes and buffers count from 0 in the order of the parameters. Which
-   NaN a NaN is (its sign and payload) is not decided.
+   NaN a NaN is (its sign and payload) is not decided. Of the one-state record a refusal leaves all as
+   lent but the count of refusals: see its function.
 
    Only corrections are tested for what is not finite: yurgamysh_correct, yurgamysh_update and
    yurgamysh_one_state_correct. One that is done leaves the n numbers of x and the n*n of P finite;
@@ -55,16 +58,16 @@
 #define YURGAMYSH_H
 
 #include <stddef.h>
+#include <stdint.h>
 
 #ifdef __cplusplus
 extern "C" {
 #endif
 
 enum {
-    /* The largest size, the most cells of a matrix, and the floats of a one-state record. */
+    /* The largest size, and the most cells of a matrix. */
     YURGAMYSH_MAX_SIZE = 16,
-    YURGAMYSH_MAX_CELLS = 256,
-    YURGAMYSH_RECORD = 6
+    YURGAMYSH_MAX_CELLS = 256
 };
 
 /* What a call says. */
@@ -175,17 +178,42 @@ size_t yurgamysh_correct(size_t n, size_t m,
                          float *temp_pht, size_t temp_pht_len,
                          float *temp_khp, size_t temp_khp_len);
 
-/* ---- One yarn, by a record of six floats: x, p, a, q, h, r. The bits are those of the filter at
-   n = m = 1, with no room to work in. */
+/* ---- One yarn, by a record. The bits are those of the filter at n = m = 1, with no room to work in.
 
-/* x = a*x, p = a*p*a + q. What is not finite is not refused here, as in yurgamysh_predict.
-   Buffer 0: the record. */
-size_t yurgamysh_one_state_predict(float *record, size_t record_len);
+   x, p    the estimate, and its spread
+   a, q    the model, and the spread that a step adds
+   h, r    how the reading sees x, and the reading's spread
+   blind   how many corrections were refused in a row, for whoever minds the feeder. 0: the last
+           correction was accepted, or there was none yet; 255: that many or more. It goes up for a
+           bad reading, and for any reading where the record's own numbers are bad
 
-/* x and p as the reading z moves them. Refusal YURGAMYSH_PIVOT (400) leaves the record as lent, and so
-   does YURGAMYSH_NOT_FINITE (900), where the new x or p is an infinity or a NaN; so is x wherever z is
-   one. Buffer 0: the record. */
-size_t yurgamysh_one_state_correct(float *record, size_t record_len, float z);
+   A record has 28 bytes, aligned as a float is: the floats at 0, 4, 8, 12, 16 and 20, blind at 24, and
+   three bytes of padding. Feeders may stand in an array: a call touches the one that it is given. */
+typedef struct yurgamysh_one_state {
+    float x;
+    float p;
+    float a;
+    float q;
+    float h;
+    float r;
+    uint8_t blind;
+} yurgamysh_one_state;
+
+/* The record of these numbers, with no correction refused yet: blind is 0. */
+static inline yurgamysh_one_state yurgamysh_one_state_new(float x, float p, float a, float q, float h,
+                                                          float r) {
+    yurgamysh_one_state yarn = {x, p, a, q, h, r, 0};
+    return yarn;
+}
+
+/* x = a*x, p = a*p*a + q; a, q, h, r and blind stay. Nothing comes back, since nothing is refused:
+   what is not finite is not tested here, as in yurgamysh_predict. */
+void yurgamysh_one_state_predict(yurgamysh_one_state *yarn);
+
+/* x and p as the reading z moves them, and blind 0; a, q, h and r stay. Refusal YURGAMYSH_PIVOT (400),
+   and YURGAMYSH_NOT_FINITE (900), where the new x or p is an infinity or a NaN (so is x wherever z is
+   one), write blind alone: one up, and 255 stays 255. Every other byte of the record is as lent. */
+size_t yurgamysh_one_state_correct(yurgamysh_one_state *yarn, float z);
 
 /* ---- Decomposition and inverse */
 

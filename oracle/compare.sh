@@ -73,7 +73,7 @@ seconds=$((SECONDS - began))
 read -r calls numbers differ bad _ < <(cat "$out"/* | counts -)
 cat "$out"/* | grep '^line' | head -n 10 || true
 
-echo 'planted faults, each in the fixed list of some 3,200 calls and in one of 20,000:'
+echo 'planted faults, each in the fixed list of some 3,250 calls and in one of 20,000:'
 missed=0
 for fault in $("$root/target/oracle/oracle" --faults); do
   replay "$out/small" --small --fault "$fault"

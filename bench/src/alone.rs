@@ -93,10 +93,15 @@ pub fn root(plan: Plan, figures: &mut Vec<Figure>) -> Result<(), String> {
 /// The one-state filter against the original's filter of one state over arrays.
 pub fn one_state(plan: Plan, figures: &mut Vec<Figure>) -> Result<(), String> {
     let from = black_box(model::<1, 1, 1, 1, 1>());
-    let start = [
-        from.x[0], from.p[0], from.a[0], from.q[0], from.h[0], from.r[0],
-    ];
-    let mut record = start;
+    let mut yarn = ours::OneState {
+        x: from.x[0],
+        p: from.p[0],
+        a: from.a[0],
+        q: from.q[0],
+        h: from.h[0],
+        r: from.r[0],
+        blind: 0,
+    };
     let mut filter = RegularKalmanBuilder::new::<1, f32>(
         Held::<1, 1, 1>(from.a),
         Held::<1, 1, 1>(from.x),
@@ -123,13 +128,11 @@ pub fn one_state(plan: Plan, figures: &mut Vec<Figure>) -> Result<(), String> {
         seen.measurement_vector_mut().0 = z;
         filter.predict();
         filter.correct(&mut seen);
-        let done = (
-            ours::one_state_predict(&mut record),
-            ours::one_state_correct(&mut record, z[0]),
-        );
-        let agree = same(&record[..1], &filter.state_vector().0)
-            && same(&record[1..2], &filter.estimate_covariance().0);
-        if done != (0, 0) || !agree {
+        ours::one_state_predict(&mut yarn);
+        let code = ours::one_state_correct(&mut yarn, z[0]);
+        let agree = same(&[yarn.x], &filter.state_vector().0)
+            && same(&[yarn.p], &filter.estimate_covariance().0);
+        if code != 0 || yarn.blind != 0 || !agree {
             return Err(format!(
                 "one state, step {step}: ours and the original differ"
             ));
@@ -140,10 +143,10 @@ pub fn one_state(plan: Plan, figures: &mut Vec<Figure>) -> Result<(), String> {
         [
             &mut |count| {
                 for _ in 0..count {
-                    let r = black_box(&mut record);
-                    r[0] = start[0];
-                    r[1] = start[1];
-                    ours::one_state_predict(black_box(r));
+                    let y = black_box(&mut yarn);
+                    y.x = from.x[0];
+                    y.p = from.p[0];
+                    ours::one_state_predict(black_box(y));
                 }
             },
             &mut |count| {
@@ -163,10 +166,10 @@ pub fn one_state(plan: Plan, figures: &mut Vec<Figure>) -> Result<(), String> {
         [
             &mut |count| {
                 for _ in 0..count {
-                    let r = black_box(&mut record);
-                    r[0] = start[0];
-                    r[1] = start[1];
-                    ours::one_state_correct(black_box(r), z);
+                    let y = black_box(&mut yarn);
+                    y.x = from.x[0];
+                    y.p = from.p[0];
+                    ours::one_state_correct(black_box(y), z);
                 }
             },
             &mut |count| {

@@ -48,8 +48,19 @@ extern "C" {
     ) -> usize;
     fn yurgamysh_cholesky_decompose_lower(n: usize, t: *mut f32, t_len: usize) -> usize;
     fn yurgamysh_square_root(x: f32) -> f32;
-    fn yurgamysh_one_state_predict(record: *mut f32, record_len: usize) -> usize;
-    fn yurgamysh_one_state_correct(record: *mut f32, record_len: usize, z: f32) -> usize;
+    fn yurgamysh_one_state_predict(yarn: *mut OneState);
+    fn yurgamysh_one_state_correct(yarn: *mut OneState, z: f32) -> usize;
+}
+
+#[repr(C)]
+pub struct OneState {
+    pub x: f32,
+    pub p: f32,
+    pub a: f32,
+    pub q: f32,
+    pub h: f32,
+    pub r: f32,
+    pub blind: u8,
 }
 
 pub struct Filter<const N: usize, const M: usize, const NN: usize, const MN: usize, const MM: usize>
@@ -179,13 +190,13 @@ pub fn square_root(x: f32) -> f32 {
 }
 
 #[inline(always)]
-pub fn one_state_predict(record: &mut [f32; 6]) -> usize {
-    // SAFETY: one array with its length.
-    unsafe { yurgamysh_one_state_predict(record.as_mut_ptr(), 6) }
+pub fn one_state_predict(yarn: &mut OneState) {
+    // SAFETY: one record.
+    unsafe { yurgamysh_one_state_predict(yarn) }
 }
 
 #[inline(always)]
-pub fn one_state_correct(record: &mut [f32; 6], z: f32) -> usize {
-    // SAFETY: one array with its length.
-    unsafe { yurgamysh_one_state_correct(record.as_mut_ptr(), 6, z) }
+pub fn one_state_correct(yarn: &mut OneState, z: f32) -> usize {
+    // SAFETY: one record.
+    unsafe { yurgamysh_one_state_correct(yarn, z) }
 }

@@ -19,17 +19,28 @@ static size_t fill(const struct call *c, size_t cells, float x) {
     return 0;
 }
 
-/* The general filter at n = m = 1 over the record's x, p, a, q, h, r. */
+/* The general filter at n = m = 1 over the record's x, p, a, q, h, r, and its count. */
 static size_t one_state(const struct call *c, int corrects) {
     float *record = B(0), room[7];
+    unsigned char *blind = (unsigned char *)&record[6];
+    size_t code;
     if (!corrects) {
         model_predict_x(1, &record[0], &record[2], &room[0]);
         model_predict_p(1, &record[2], &record[1], &record[3], &room[1]);
         return 0;
     }
     model_innovation(1, 1, &record[0], &record[4], &c->value[0], &room[0]);
-    return model_update(1, 1, &record[0], &record[1], &record[4], &record[5], &room[0], &room[1],
+    code = model_update(1, 1, &record[0], &record[1], &record[4], &record[5], &room[0], &room[1],
                         &room[2], &room[3], &room[4], &room[5], &room[6]);
+    if (code == 0)
+        *blind = 0;
+    else if (*blind < 255)
+        *blind += 1;
+    return code;
+}
+
+static yurgamysh_one_state *yarn(const struct call *c) {
+    return (yurgamysh_one_state *)(void *)B(0);
 }
 
 static size_t lib_predict(const struct call *c) {
@@ -89,13 +100,14 @@ static size_t rules_correct(const struct call *c) {
 }
 
 static size_t lib_one_state_predict(const struct call *c) {
-    return yurgamysh_one_state_predict(LENT(0));
+    yurgamysh_one_state_predict(yarn(c));
+    return 0;
 }
 
 static size_t rules_one_state_predict(const struct call *c) { return one_state(c, 0); }
 
 static size_t lib_one_state_correct(const struct call *c) {
-    return yurgamysh_one_state_correct(LENT(0), c->value[0]);
+    return yurgamysh_one_state_correct(yarn(c), c->value[0]);
 }
 
 static size_t rules_one_state_correct(const struct call *c) { return one_state(c, 1); }
@@ -356,8 +368,8 @@ const struct function functions[] = {
     ROW(innovation, 2, "0a101a1a", "rrrw", 4, 0, 0, 0),
     ROW(update, 2, "0a0010111a110111100100", "kkrrrwwwwww", 11, 0, 0, 1),
     ROW(correct, 2, "0a00101a111a110111100100", "kkrrrwwwwwww", 12, 0, 0, 1),
-    ROW(one_state_predict, 0, "af", "w", 1, 0, 0, 0),
-    ROW(one_state_correct, 0, "af", "k", 1, 0, 0, 1),
+    ROW(one_state_predict, 0, "ag", "w", 0, 0, 0, 0),
+    ROW(one_state_correct, 0, "ag", "k", 0, 0, 0, 1),
     ROW(cholesky_decompose_lower, 1, "00", "w", 1, 0, 0, 1),
     ROW(invert_l_cholesky, 1, "0000", "rw", 2, 0, 0, 0),
     ROW(get, 2, "01aa", "rw", 1, 1, 1, 0),
@@ -392,6 +404,8 @@ const size_t function_count = sizeof functions / sizeof functions[0];
 static size_t extent(char letter, const struct call *c) {
     return letter >= 'a' ? (size_t)(letter - 'a') + 1 : c->size[letter - '0'];
 }
+
+int takes_record(const struct function *f) { return f->shapes[1] == 'g'; }
 
 size_t cells_of(const struct function *f, const struct call *c, size_t k) {
     return extent(f->shapes[2 * k], c) * extent(f->shapes[2 * k + 1], c);

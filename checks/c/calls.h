@@ -21,13 +21,14 @@ struct call {
 struct function {
     const char *name;
     size_t sizes;
-    /* Two letters a buffer, its rows and columns: 0 to 2 are the size of this index, a to f are 1
-     * to 6. */
+    /* Two letters a buffer, its rows and columns: 0 to 2 are the size of this index, a is 1, and ag
+       the record of a yarn: six floats, and its count with the padding as a seventh. */
     const char *shapes;
     /* A letter a buffer: w where the call may write it, r where it only reads it, k where an
-       accepted call writes it and a refused one keeps it: x and P of a correction. */
+       accepted call writes it and a refused one keeps it: x and P of a correction, and the record
+       but for its count. */
     const char *writes;
-    /* Buffers past this count come with no length: the one float that get writes. */
+    /* Buffers past this count come with no length: the one float that get writes, the record. */
     size_t counted;
     int has_row, has_column, has_pivots;
     size_t (*lib)(const struct call *);
@@ -37,6 +38,8 @@ struct function {
 
 extern const struct function functions[];
 extern const size_t function_count;
+
+int takes_record(const struct function *f);
 
 /* The cells of buffer k's matrix; each size is 1 to 16. */
 size_t cells_of(const struct function *f, const struct call *c, size_t k);

@@ -93,7 +93,6 @@ static void decompositions(void) {
 static void corrections(void) {
     const float h[] = {1}, r[] = {1}, z[] = {5}, broken[] = {INFINITY};
     float x[] = {1}, p[] = {3}, y[1], s[1], k[] = {7}, s_inv[1], hp[1], pht[1], khp[1];
-    float record[YURGAMYSH_RECORD] = {1, 3, 1, 0, 1, 1}, after[] = {4, 0.75f, 1, 0, 1, 1};
     expect("a correction", yurgamysh_correct(1, 1, x, 1, p, 1, h, 1, z, 1, r, 1, y, 1, s, 1, k, 1,
                                              s_inv, 1, hp, 1, pht, 1, khp, 1) == 0);
     expect("its x, P, K and S", x[0] == 4 && p[0] == 0.75f && k[0] == 0.75f && s[0] == 2);
@@ -104,20 +103,11 @@ static void corrections(void) {
                                                     k, 1, s_inv, 1, hp, 1, pht, 1, khp, 1) == 400);
     expect("its x, P and K as lent",
            x[0] == 1 && p[0] == -3 && k[0] == 7 && y[0] == 4 && hp[0] == -3);
-    expect("the same by record",
-           yurgamysh_one_state_correct(record, YURGAMYSH_RECORD, 5) == 0 && same(6, record, after));
     x[0] = 1;
     p[0] = 3;
     expect("an infinite R", yurgamysh_correct(1, 1, x, 1, p, 1, h, 1, z, 1, broken, 1, y, 1, s, 1, k,
                                               1, s_inv, 1, hp, 1, pht, 1, khp, 1) == 400);
     expect("its x and P as lent", x[0] == 1 && p[0] == 3 && k[0] == 7 && isnan(s[0]));
-    record[5] = after[5] = INFINITY;
-    expect("an infinite r of the record",
-           yurgamysh_one_state_correct(record, YURGAMYSH_RECORD, 5) == 400 && same(6, record, after));
-    record[5] = after[5] = 1;
-    record[1] = after[1] = -3;
-    expect("refused by record", yurgamysh_one_state_correct(record, YURGAMYSH_RECORD, 5) == 400 &&
-                                    same(6, record, after));
 }
 
 /* The buffers of a correction of two states by one reading: what it goes by, and what it works in.
@@ -218,41 +208,200 @@ static void overflows(void) {
     expect_two("the largest x", &g, 0, &after, &work);
 }
 
-/* The correction of the record, and of the filter at n = m = 1, gives this code and leaves the
-   record, or x and P, as lent. */
-static void expect_record(const char *what, const float *record, float z, size_t code) {
-    float found[YURGAMYSH_RECORD], x = record[0], p = record[1], w[7];
-    memcpy(found, record, sizeof found);
-    expect(what, yurgamysh_one_state_correct(found, YURGAMYSH_RECORD, z) == code &&
-                     memcmp(found, record, sizeof found) == 0);
+/* What must hold for the test to compile; C99 has no word for it. */
+#if defined __cplusplus
+#define HOLDS(name, test) static_assert(test, #name)
+#elif __STDC_VERSION__ >= 201112L
+#define HOLDS(name, test) _Static_assert(test, #name)
+#else
+#define HOLDS(name, test) typedef char name[(test) ? 1 : -1]
+#endif
+#define AT(member, offset)                                                                         \
+    HOLDS(member##_is_at_##offset, offsetof(yurgamysh_one_state, member) == offset)
+
+struct after_a_byte {
+    char byte;
+    yurgamysh_one_state yarn;
+};
+
+AT(x, 0);
+AT(p, 4);
+AT(a, 8);
+AT(q, 12);
+AT(h, 16);
+AT(r, 20);
+AT(blind, 24);
+HOLDS(blind_is_a_byte, sizeof(((yurgamysh_one_state *)0)->blind) == 1);
+HOLDS(a_record_has_28_bytes, sizeof(yurgamysh_one_state) == 28);
+HOLDS(a_record_is_aligned_to_4, offsetof(struct after_a_byte, yarn) == 4);
+
+/* A record with this count, and bytes of its own in the padding. */
+static yurgamysh_one_state *lend_yarn(yurgamysh_one_state *yarn, const float *numbers,
+                                      uint8_t blind) {
+    memset(yarn, 0xa5, sizeof *yarn);
+    memcpy(yarn, numbers, 6 * sizeof(float));
+    memcpy(&yarn->blind, &blind, 1);
+    return yarn;
+}
+
+/* a, q, h and r are these, to the bit. */
+static int keeps(const yurgamysh_one_state *yarn, const float *numbers) {
+    return memcmp((const char *)yarn + 8, &numbers[2], 4 * sizeof(float)) == 0;
+}
+
+/* The record has these six numbers and this count. */
+static int has(const yurgamysh_one_state *yarn, const float *numbers, uint8_t blind) {
+    return same(1, &yarn->x, &numbers[0]) && same(1, &yarn->p, &numbers[1]) &&
+           keeps(yarn, numbers) && yarn->blind == blind;
+}
+
+/* The reading is refused with this code, and the count is one up, or still 255. Every other byte is
+   as lent. */
+static int blinds(yurgamysh_one_state *yarn, float z, size_t code) {
+    unsigned char want[sizeof *yarn];
+    memcpy(want, yarn, sizeof want);
+    if (want[24] < 255)
+        want[24]++;
+    return yurgamysh_one_state_correct(yarn, z) == code && memcmp(yarn, want, sizeof want) == 0;
+}
+
+/* The correction of the record, and of the filter at n = m = 1, is refused with this code. From any
+   count it leaves the record but for that, or x and P, as lent. */
+static void expect_record(const char *what, const float *numbers, float z, size_t code) {
+    float x = numbers[0], p = numbers[1], w[7];
+    yurgamysh_one_state yarn;
+    unsigned count, held = 0;
+    for (count = 0; count <= 255; count++)
+        held += blinds(lend_yarn(&yarn, numbers, (uint8_t)count), z, code);
+    expect(what, held == 256);
     expect(what,
-           yurgamysh_correct(1, 1, &x, 1, &p, 1, &record[4], 1, &z, 1, &record[5], 1, &w[0], 1,
+           yurgamysh_correct(1, 1, &x, 1, &p, 1, &numbers[4], 1, &z, 1, &numbers[5], 1, &w[0], 1,
                              &w[1], 1, &w[2], 1, &w[3], 1, &w[4], 1, &w[5], 1, &w[6], 1) == code &&
-               same(1, &x, &record[0]) && same(1, &p, &record[1]));
+               same(1, &x, &numbers[0]) && same(1, &p, &numbers[1]));
+}
+
+static void records(void) {
+    const float good[] = {1, 3, 1, 0, 1, 1}, good_after[] = {4, 0.75f, 1, 0, 1, 1},
+                moved[] = {3, 2, 5, 7, 1, 1}, moved_after[] = {15, 57, 5, 7, 1, 1},
+                below[] = {1, -3, 1, 0, 1, 1}, broken[] = {1, 3, 1, 0, 1, INFINITY},
+                model[] = {1, 3, NAN, INFINITY, 1, 1}, after[] = {4, 0.75f, NAN, INFINITY, 1, 1};
+    yurgamysh_one_state yarn = yurgamysh_one_state_new(1, 2, 3, 4, 5, 6);
+    unsigned count, left = 0, zeroed = 0;
+    expect("a new record", yarn.x == 1 && yarn.p == 2 && yarn.a == 3 && yarn.q == 4 &&
+                               yarn.h == 5 && yarn.r == 6 && yarn.blind == 0);
+    for (count = 0; count <= 255; count++) {
+        yurgamysh_one_state_predict(lend_yarn(&yarn, moved, (uint8_t)count));
+        left += has(&yarn, moved_after, (uint8_t)count);
+        zeroed += yurgamysh_one_state_correct(lend_yarn(&yarn, good, (uint8_t)count), 5) == 0 &&
+                  has(&yarn, good_after, 0);
+    }
+    expect("a prediction leaves any count", left == 256);
+    expect("an accepted correction sets any count to 0", zeroed == 256);
+    expect_record("an infinite r of the record", broken, 5, 400);
+    expect_record("a spread of the record below zero", below, 5, 400);
+    expect("a and q of a record are not tested",
+           yurgamysh_one_state_correct(lend_yarn(&yarn, model, 0), 5) == 0 && has(&yarn, after, 0));
 }
 
 static void spoilt_records(void) {
     const float good[] = {1, 3, 1, 0, 1, 1}, far[] = {FLT_MAX, 4, 1, 0, 0.5f, 0},
                 top = ldexpf(1.0f, 126), wide[] = {1, top, 1, 0, 1, ldexpf(1.0f, 102) - top},
-                below[] = {1, -3, 1, 0, 1, 1}, after[] = {4, 0.75f, NAN, INFINITY, 1, 1},
-                spoilt_x[] = {INFINITY, 4, 2, 0, 1, 1}, spoilt_p[] = {2, INFINITY, 2, 0, 1, 1};
-    float model[] = {1, 3, NAN, INFINITY, 1, 1}, x_far[] = {FLT_MAX, 1, 2, 0, 1, 1},
-          p_far[] = {1, FLT_MAX, 2, 0, 1, 1};
+                below[] = {1, -3, 1, 0, 1, 1}, x_far[] = {FLT_MAX, 1, 2, 0, 1, 1},
+                p_far[] = {1, FLT_MAX, 2, 0, 1, 1}, spoilt_x[] = {INFINITY, 4, 2, 0, 1, 1},
+                spoilt_p[] = {2, INFINITY, 2, 0, 1, 1};
+    yurgamysh_one_state yarn;
     expect_record("a record and NaN", good, NAN, 900);
     expect_record("a record and infinity", good, INFINITY, 900);
     expect_record("a record and -infinity", good, -INFINITY, 900);
     expect_record("x of a record overflows", far, FLT_MAX, 900);
     expect_record("p of a record overflows", wide, 1, 900);
     expect_record("a record with a bad pivot and NaN", below, NAN, 400);
-    expect("a and q of a record are not tested",
-           yurgamysh_one_state_correct(model, YURGAMYSH_RECORD, 5) == 0 && same(6, model, after));
     /* a prediction is not tested, and after it no correction is accepted */
-    expect("a prediction of x overflows",
-           yurgamysh_one_state_predict(x_far, YURGAMYSH_RECORD) == 0 && same(6, x_far, spoilt_x));
+    yurgamysh_one_state_predict(lend_yarn(&yarn, x_far, 7));
+    expect("a prediction of x overflows", has(&yarn, spoilt_x, 7));
     expect_record("its correction", spoilt_x, 5, 900);
-    expect("a prediction of p overflows",
-           yurgamysh_one_state_predict(p_far, YURGAMYSH_RECORD) == 0 && same(6, p_far, spoilt_p));
+    yurgamysh_one_state_predict(lend_yarn(&yarn, p_far, 7));
+    expect("a prediction of p overflows", has(&yarn, spoilt_p, 7));
     expect_record("its correction", spoilt_p, 5, 400);
+}
+
+/* A refused record keeps each NaN to the bit, quiet or not, in any of its places; any other keeps
+   those of a, q, h and r. */
+static void payloads(void) {
+    static const uint32_t nan[] = {0x7fc12345u, 0xffc54321u, 0x7f812345u, 0xff800001u, 0x7fffffffu};
+    const float good[] = {1, 3, 1, 0, 1, 1};
+    float numbers[6];
+    yurgamysh_one_state yarn;
+    size_t i, place;
+    for (i = 0; i < sizeof nan / sizeof nan[0]; i++)
+        for (place = 0; place < 6; place++) {
+            memcpy(numbers, good, sizeof numbers);
+            memcpy(&numbers[place], &nan[i], sizeof nan[i]);
+            /* p, h and r are in the pivot; x, a and q are not */
+            expect_record("a NaN in the record", numbers, NAN,
+                          place == 1 || place == 4 || place == 5 ? 400 : 900);
+            yurgamysh_one_state_predict(lend_yarn(&yarn, numbers, 7));
+            expect("a NaN in a prediction", keeps(&yarn, numbers) && yarn.blind == 7);
+            if (place == 2 || place == 3)
+                expect("a NaN in an accepted correction",
+                       yurgamysh_one_state_correct(lend_yarn(&yarn, numbers, 7), 5) == 0 &&
+                           keeps(&yarn, numbers) && yarn.blind == 0);
+        }
+}
+
+/* A call on one feeder of twelve leaves every byte of the others. */
+static void feeders_in_a_row(void) {
+    enum { FEEDERS = 12 };
+    yurgamysh_one_state feeders[FEEDERS], before[FEEDERS];
+    const float good[] = {1, 3, 1, 0, 1, 1};
+    /* a prediction, a correction, and one of each refusal */
+    const size_t codes[] = {0, 0, 900, 400};
+    size_t i, k, call, code, alone = 0;
+    for (i = 0; i < FEEDERS; i++)
+        for (call = 0; call < 4; call++) {
+            for (k = 0; k < FEEDERS; k++)
+                memset(&feeders[k], (int)(0x7f - k), sizeof feeders[k]);
+            lend_yarn(&feeders[i], good, 255);
+            if (call == 3)
+                feeders[i].r = -INFINITY;
+            memcpy(before, feeders, sizeof before);
+            code = 0;
+            if (call == 0)
+                yurgamysh_one_state_predict(&feeders[i]);
+            else
+                code = yurgamysh_one_state_correct(&feeders[i], call == 2 ? NAN : 5);
+            memcpy(&before[i], &feeders[i], sizeof before[i]);
+            alone += code == codes[call] && memcmp(before, feeders, sizeof before) == 0;
+        }
+    expect("a call on one feeder leaves the others", alone == 4 * FEEDERS);
+}
+
+/* 300 readings are refused, with a prediction before each: the count shows 1 to 255 and stays
+   there. The first good reading then sets it to 0. */
+static void expect_blind(const char *what, const float *numbers, float z, size_t code) {
+    yurgamysh_one_state yarn;
+    unsigned step, shown = 0;
+    lend_yarn(&yarn, numbers, 0);
+    for (step = 1; step <= 300; step++) {
+        yurgamysh_one_state_predict(&yarn);
+        shown += blinds(&yarn, z, code) && yarn.blind == (step < 255 ? step : 255);
+    }
+    expect(what, shown == 300);
+    /* the fault is mended, if it was the record's */
+    yarn.p = 3;
+    yarn.r = 2;
+    yurgamysh_one_state_predict(&yarn);
+    expect(what, yarn.blind == 255 && yurgamysh_one_state_correct(&yarn, 36) == 0 &&
+                     yarn.blind == 0 && yarn.x > 35 && yarn.x < 36);
+    expect(what, blinds(&yarn, NAN, 900) && yarn.blind == 1);
+}
+
+static void blind_feeders(void) {
+    const float well[] = {35, 4, 1, 0.0625f, 1, 2}, broken[] = {35, 4, 1, 0.0625f, 1, -INFINITY},
+                below[] = {35, -1000, 1, 0.0625f, 1, 2};
+    expect_blind("300 readings of NaN", well, NAN, 900);
+    expect_blind("300 readings with r = -infinity", broken, 36, 400);
+    expect_blind("300 readings with p below zero", below, 36, 400);
 }
 
 static void products(void) {
@@ -272,7 +421,11 @@ size_t run_examples(size_t *count) {
     corrections();
     bad_readings();
     overflows();
+    records();
     spoilt_records();
+    payloads();
+    feeders_in_a_row();
+    blind_feeders();
     products();
     *count = made;
     return wrong;

@@ -4,6 +4,7 @@
 
 #include <float.h>
 #include <math.h>
+#include <string.h>
 
 /* A fixed sequence, so that every run is the same (xorshift, 64 bits). */
 uint32_t draw(void) {
@@ -55,11 +56,20 @@ static void fill_large(char rows, char columns, size_t n, size_t cells, float *a
     } else if (rows == '1' && columns == '0') {
         for (i = 0; i < cells; i += n)
             at[i] = 0.0f;
-    } else if (columns == 'f') {
+    } else if (columns == 'g') {
         at[1] = ldexpf(1.0f, 126);
         at[4] = 1.0f;
         at[5] = ldexpf(1.0f, 102) - at[1];
     }
+}
+
+/* The count of a record, often at an end of its range, and any bytes behind it. */
+static void fill_count(float *at) {
+    static const uint8_t ends[] = {0, 1, 254, 255};
+    uint32_t bytes = draw();
+    uint8_t count = draw() % 2 ? ends[draw() % 4] : (uint8_t)draw();
+    memcpy(at, &bytes, sizeof bytes);
+    memcpy(at, &count, sizeof count);
 }
 
 void fill_cells(const struct function *f, const struct call *c, size_t k, enum kind kind) {
@@ -69,6 +79,8 @@ void fill_cells(const struct function *f, const struct call *c, size_t k, enum k
     int sized = rows < 'a', last = rows == (char)('0' + f->sizes - 1);
     for (i = 0; i < cells; i++)
         at[i] = draw_number(kind < POSITIVE ? kind : WHOLE);
+    if (takes_record(f))
+        fill_count(&at[6]);
     if (kind < POSITIVE)
         return;
     if (sized && rows == columns)

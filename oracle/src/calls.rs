@@ -57,6 +57,10 @@ functions! {
     OneStateCorrect "one_state_correct"
 }
 
+/// Where the record of one yarn has its count of corrections refused in a row, behind x, p, a, q, h, r.
+/// A count is the bits of its number: nothing is computed with that number.
+pub const BLIND: usize = 6;
+
 /// Which of row and column a call takes.
 #[derive(Clone, Copy, PartialEq, Eq)]
 pub enum Places {
@@ -132,7 +136,7 @@ impl Function {
         use Function::*;
         match self {
             Recip | SquareRoot => vec![],
-            OneStatePredict | OneStateCorrect => vec![6],
+            OneStatePredict | OneStateCorrect => vec![BLIND + 1],
             SetSymmetric
             | SetDiagonalToScalar
             | MakeScalar
@@ -170,6 +174,11 @@ impl Function {
                 all
             }
         }
+    }
+
+    /// Whether the one buffer is the record of one yarn.
+    pub fn record(self) -> bool {
+        matches!(self, Function::OneStatePredict | Function::OneStateCorrect)
     }
 
     /// How many buffers are lent.
@@ -394,6 +403,10 @@ pub fn read_line(line: &str) -> Result<(Call, Tag, Answer), String> {
         .collect::<Result<_, _>>()?;
     if !w.text.is_empty() {
         return Err(format!("words past the end: '{}'", w.text));
+    }
+    let whole = |b: &Vec<f32>| b.len() == BLIND + 1 && b[BLIND].to_bits() <= 255;
+    if function.record() && !lent.iter().chain(&after).all(whole) {
+        return Err("no record of six numbers and a count".into());
     }
     let call = Call {
         function,

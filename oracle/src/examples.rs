@@ -378,27 +378,48 @@ pub fn all() -> Vec<Example> {
     );
     reading.differs = true;
     out.push(reading);
-    let record = |what, z: f32, before: [f32; 6], after: [f32; 6]| {
-        let mut e = done(what, OneStateCorrect, &[], &[&before], &[&after]);
-        e.call.scalars = vec![z];
-        e
+    // A record's six numbers and its count, before and after.
+    let record = |what, f, before: ([f32; 6], u32), after: ([f32; 6], u32)| {
+        let [before, after] =
+            [before, after].map(|(six, blind)| [&six[..], &[bits(blind)]].concat());
+        done(what, f, &[], &[&before], &[&after])
     };
     let good = [1.0, 3.0, 1.0, 0.0, 1.0, 1.0];
-    out.push(record(
-        "the record x = 1, p = 3, h = r = 1, z = 5",
-        5.0,
-        good,
-        [4.0, 0.75, 1.0, 0.0, 1.0, 1.0],
-    ));
-    let broken = [1.0, 3.0, 1.0, 0.0, 1.0, INF];
-    for (what, z, lent, number) in [
-        ("the record with r = +infinity is refused", 5.0, broken, 4),
-        ("the record with z = NaN is refused", NAN, good, 9),
+    for (what, blind) in [
+        ("the record x = 1, p = 3, h = r = 1, z = 5", 0),
+        ("the record with z = 5 after 7 refusals", 7),
     ] {
-        let mut e = refused(record(what, z, lent, lent), number, 0);
+        let after = [4.0, 0.75, 1.0, 0.0, 1.0, 1.0];
+        let mut e = record(what, OneStateCorrect, (good, blind), (after, 0));
+        e.call.scalars = vec![5.0];
+        out.push(e)
+    }
+    let broken = [1.0, 3.0, 1.0, 0.0, 1.0, INF];
+    for (what, z, six, number, from, to) in [
+        (
+            "the record with r = +infinity is refused",
+            5.0,
+            broken,
+            4,
+            0,
+            1,
+        ),
+        ("the record with z = NaN is refused", NAN, good, 9, 2, 3),
+        ("the record's 255th refusal", 5.0, broken, 4, 254, 255),
+        ("the record's 256th refusal", NAN, good, 9, 255, 255),
+    ] {
+        let e = record(what, OneStateCorrect, (six, from), (six, to));
+        let mut e = refused(e, number, 0);
+        e.call.scalars = vec![z];
         e.differs = true;
         out.push(e)
     }
+    out.push(record(
+        "the record x = 1, p = 3, a = 2, q = 1 predicted after 9 refusals",
+        OneStatePredict,
+        ([1.0, 3.0, 2.0, 1.0, 1.0, 1.0], 9),
+        ([2.0, 13.0, 2.0, 1.0, 1.0, 1.0], 9),
+    ));
     // Two inputs that tell a sum of floats that starts at -0 from one that starts at +0.
     out.push(done(
         "[1 0; 0 -1] inverts with +0 off the diagonal",

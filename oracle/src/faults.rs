@@ -23,9 +23,13 @@ pub enum Fault {
     POnly,
     /// The new x is written before it and the new P are tested.
     XBeforeTest,
+    /// A record's count is 0 again after 255.
+    BlindWraps,
+    /// An accepted correction leaves a record's count.
+    BlindKept,
 }
 
-pub const NAMES: [(&str, Fault); 9] = [
+pub const NAMES: [(&str, Fault); 11] = [
     ("fused_multiply_add", Fault::FusedMultiplyAdd),
     ("zero_start", Fault::ZeroStart),
     ("one_reciprocal", Fault::OneReciprocal),
@@ -35,6 +39,8 @@ pub const NAMES: [(&str, Fault); 9] = [
     ("x_only", Fault::XOnly),
     ("p_only", Fault::POnly),
     ("x_before_test", Fault::XBeforeTest),
+    ("blind_wraps", Fault::BlindWraps),
+    ("blind_kept", Fault::BlindKept),
 ];
 
 thread_local! {

@@ -1,7 +1,7 @@
 //! Which calls a list holds. A line depends on the seed, its function and how many lines of that
 //! function came before it, so that a list of fewer functions holds the same lines of those.
 
-use crate::calls::{Call, Function, Places, ALL};
+use crate::calls::{Call, Function, Places, ALL, BLIND};
 use crate::inputs::{
     mark, nan, not_finite, number, numbers, shape, symmetric, Kind, Random, Shape, KINDS,
 };
@@ -9,6 +9,9 @@ use crate::model;
 
 /// No buffer in a list has more numbers.
 pub const LONGEST: usize = 300;
+
+/// The ends of a record's count, where a wrong one shows.
+pub const ENDS: [u32; 3] = [0, 254, 255];
 
 /// How sizes are spread.
 #[derive(Clone, Copy, PartialEq, Eq)]
@@ -117,7 +120,13 @@ fn call(plan: Plan, seed: u64, f: Function, count: u64) -> Call {
     }
     if plan == Plan::Even && matches!(f, Correct | UpdateWithInnovation | OneStateCorrect) {
         if turn % ASKED_EVERY == ASKED_EVERY - 1 {
-            let (sizes, asked) = asked_in_turn(seed, f, turn / ASKED_EVERY);
+            let turn = (turn / ASKED_EVERY).wrapping_add(seed.wrapping_mul(90));
+            if f == OneStateCorrect {
+                let all = of_records();
+                let (asked, blind) = all[turn as usize % all.len()];
+                return counted(accepted(r, f, vec![], Some(asked)), blind);
+            }
+            let (sizes, asked) = asked_in_turn(turn);
             return accepted(r, f, sizes, Some(asked));
         }
         turn -= turn / ASKED_EVERY
@@ -136,8 +145,10 @@ fn call(plan: Plan, seed: u64, f: Function, count: u64) -> Call {
 /// What a line is to have, where that is not left to chance.
 #[derive(Clone, Copy)]
 enum Asked {
-    /// +infinity on the diagonal, at this index, of the matrix to decompose or of R; as r of a record.
+    /// +infinity on the diagonal, at this index, of the matrix to decompose or of R.
     Pivot(usize),
+    /// This r of a record; all else is ordinary.
+    Noise(f32),
     /// This reading at this index; of an update, in y.
     Reading(usize, f32),
     /// Finite numbers from which the new x overflows, at this index alone.
@@ -184,23 +195,35 @@ fn of_states(n: usize) -> Vec<Asked> {
     out
 }
 
-fn wanted(f: Function, n: usize, m: usize) -> Vec<Asked> {
+/// And of both.
+fn wanted(n: usize, m: usize) -> Vec<Asked> {
     let mut out = of_readings(m);
     out.extend(of_states(n));
-    // a record has nothing past its six numbers
-    out.retain(|asked| f != Function::OneStateCorrect || !matches!(asked, Asked::Tails));
     out
+}
+
+/// What a record's correction is asked for, and its count before: twelve things, each from each of `ENDS`.
+fn of_records() -> Vec<(Asked, u32)> {
+    let mut all = wanted(1, 1);
+    // a record has nothing past its count
+    all.retain(|asked| !matches!(asked, Asked::Tails));
+    // a pivot of each kind that is refused, and one that is taken
+    all.extend([f32::INFINITY, f32::NAN, f32::MIN, 1.0].map(Asked::Noise));
+    ENDS.iter()
+        .flat_map(|blind| all.iter().map(|asked| (*asked, *blind)))
+        .collect()
+}
+
+/// The call with this count in its record.
+fn counted(mut call: Call, blind: u32) -> Call {
+    call.lent[0][BLIND] = f32::from_bits(blind);
+    call
 }
 
 /// Sizes, and what is asked for, of the turn-th such line. All that is wanted, of each n and each m, is there
 /// once in 759 of them, and in the next 759 beside another m or n. The next seed begins 90 further on: nine
 /// lists of 25,000 lines, of seeds that follow each other, have it all.
-fn asked_in_turn(seed: u64, f: Function, turn: u64) -> (Vec<usize>, Asked) {
-    let turn = turn.wrapping_add(seed.wrapping_mul(90));
-    if f == Function::OneStateCorrect {
-        let all = wanted(f, 1, 1);
-        return (vec![], all[turn as usize % all.len()]);
-    }
+fn asked_in_turn(turn: u64) -> (Vec<usize>, Asked) {
     let other = 1 + turn as usize % 16;
     let mut all = vec![];
     for k in 1..=16 {
@@ -220,13 +243,15 @@ fn infinite_at(turn: u64, n: usize) -> Option<Asked> {
 }
 
 /// For a short list: +infinity on the diagonal at each index, of a matrix to decompose and of R, and as r of
-/// records; all that is wanted at some small sizes and of records, and at a larger size the last entries.
+/// records; all that is wanted at some small sizes and of records, and at a larger size the last entries;
+/// records' predictions from each count of `ENDS`.
 pub fn asked_lines(seed: u64) -> Vec<Call> {
     use Function::*;
     let mut out = vec![];
+    let stream = |f: Function, at: usize| Random::new(seed, f as u64, u64::MAX - 1 - at as u64);
     let mut add = |f: Function, sizes: &[usize], asked: Vec<Asked>| {
         for asked in asked {
-            let r = &mut Random::new(seed, f as u64, u64::MAX - 1 - out.len() as u64);
+            let r = &mut stream(f, out.len());
             out.push(accepted(r, f, sizes.to_vec(), Some(asked)))
         }
     };
@@ -239,14 +264,21 @@ pub fn asked_lines(seed: u64) -> Vec<Call> {
             add(f, &[n, m], pivots(m))
         }
     }
-    add(OneStateCorrect, &[], vec![Asked::Pivot(0); 6]);
+    add(OneStateCorrect, &[], vec![Asked::Noise(f32::INFINITY); 6]);
     for f in [Correct, UpdateWithInnovation] {
         for [n, m] in [[1, 1], [3, 1], [1, 2], [2, 2], [2, 3]] {
-            add(f, &[n, m], wanted(f, n, m))
+            add(f, &[n, m], wanted(n, m))
         }
         add(f, &[9, 1], vec![Asked::NewX(8), Asked::NewP(8, 8)])
     }
-    add(OneStateCorrect, &[], wanted(OneStateCorrect, 1, 1));
+    let corrections = of_records()
+        .into_iter()
+        .map(|(asked, blind)| (OneStateCorrect, Some(asked), blind));
+    let predictions = ENDS.map(|blind| (OneStatePredict, None, blind));
+    for (f, asked, blind) in corrections.chain(predictions) {
+        let r = &mut stream(f, out.len());
+        out.push(counted(accepted(r, f, vec![], asked), blind))
+    }
     out
 }
 
@@ -590,6 +622,7 @@ fn asked_correction(r: &mut Random, n: usize, m: usize, asked: Asked) -> [Vec<f3
     let mut noise = symmetric(r, shape, m);
     match asked {
         Asked::Pivot(i) => noise[i * m + i] = f32::INFINITY,
+        Asked::Noise(v) => noise[0] = if v.is_nan() { nan(r) } else { v },
         Asked::Reading(i, v) => z[i] = if v.is_nan() { nan(r) } else { v },
         Asked::NewX(j) => {
             // H P H' has g g' from P(j, j) and column j of H, which is g / 2^62. So row j of the gain is some
@@ -656,6 +689,15 @@ fn yarn(r: &mut Random) -> Vec<f32> {
     out
 }
 
+/// A yarn's count of corrections refused in a row: mostly 0, a few, or next to 255.
+fn blind(r: &mut Random) -> u32 {
+    if r.one_in(8) {
+        r.below(256) as u32
+    } else {
+        r.pick(&[0, 1, 2, 7, 253, 254, 255])
+    }
+}
+
 /// A call that passes refusals 1 to 3 and has what is asked for.
 fn accepted(r: &mut Random, f: Function, sizes: Vec<usize>, asked: Option<Asked>) -> Call {
     use Function::*;
@@ -694,15 +736,19 @@ fn accepted(r: &mut Random, f: Function, sizes: Vec<usize>, asked: Option<Asked>
             };
             vec![symmetric(r, shape, sizes[0])]
         }
-        OneStatePredict | OneStateCorrect => match asked {
-            None => vec![yarn(r)],
-            Some(asked) => {
-                let [x, p, h, z, noise] = asked_correction(r, 1, 1, asked).map(|b| b[0]);
-                let [a, q] = [0, 1].map(|_| number(r, Kind::Ordinary));
-                scalars = vec![z];
-                vec![vec![x, p, a, q, h, noise]]
-            }
-        },
+        OneStatePredict | OneStateCorrect => {
+            let mut record = match asked {
+                None => yarn(r),
+                Some(asked) => {
+                    let [x, p, h, z, noise] = asked_correction(r, 1, 1, asked).map(|b| b[0]);
+                    let [a, q] = [0, 1].map(|_| number(r, Kind::Ordinary));
+                    scalars = vec![z];
+                    vec![x, p, a, q, h, noise]
+                }
+            };
+            record.push(f32::from_bits(blind(r)));
+            vec![record]
+        }
         InvertLCholesky => vec![factor(r, sizes[0]), scratch(r, needs[1])],
         Predict | PredictX | PredictP => {
             let [x, a, p, q] = prediction(r, sizes[0]);
@@ -753,10 +799,9 @@ fn accepted(r: &mut Random, f: Function, sizes: Vec<usize>, asked: Option<Asked>
                 .collect()
         }
     };
-    // a record is six numbers, and nothing behind them
-    let tails = !matches!(f, OneStatePredict | OneStateCorrect);
+    // a record is six numbers and a count, and nothing behind them
     let bad = matches!(asked, Some(Asked::Tails));
-    if tails && (bad || r.one_in(2)) {
+    if !f.record() && (bad || r.one_in(2)) {
         // past x and P nothing is tested, and so now and then nothing there is finite
         let bad = bad || matches!(f, Correct | UpdateWithInnovation) && r.one_in(3);
         for (at, b) in lent.iter_mut().enumerate() {

@@ -19,7 +19,7 @@ use std::process::ExitCode;
 const USAGE: &str = "usage:
   oracle [--seed N] [--lines N] [--functions a,b,c]   a list, on standard output
   oracle --small [--seed N]                           the fixed list of checked examples and some
-                                                      3,200 lines, mostly of small sizes
+                                                      3,250 lines, mostly of small sizes
   oracle .. --fault NAME                              the same list with the answers of a program that makes
                                                       this mistake; --faults lists them
   oracle --check [FILE]                               reads a list (standard input if no file), runs the

@@ -302,10 +302,10 @@ fn update(n: usize, m: usize, lent: &mut [Vec<f32>]) -> Result<(), Stop> {
     Ok(())
 }
 
-/// The record x, p, a, q, h, r of one yarn as buffers for one state.
+/// The record x, p, a, q, h, r of one yarn as buffers for one state. Its count stays.
 fn one_state_predict(yarn: &mut [f32]) {
-    let [x, p, a, q, _, _] = yarn else {
-        panic!("six numbers")
+    let [x, p, a, q, _, _, _] = yarn else {
+        panic!("six numbers and a count")
     };
     let (mut xs, mut ps) = ([*x], [*p]);
     predict_x(1, &mut xs, &[*a], &mut [0.0]);
@@ -313,10 +313,22 @@ fn one_state_predict(yarn: &mut [f32]) {
     (*x, *p) = (xs[0], ps[0])
 }
 
+/// How many corrections were refused in a row after one more, from how many before it: 0 where it is
+/// accepted, else one up as far as 255.
+fn blind_after(blind: u32, accepted: bool) -> u32 {
+    match (accepted, blind) {
+        (true, _) if planted(Fault::BlindKept) => blind,
+        (true, _) => 0,
+        (false, 255) if planted(Fault::BlindWraps) => 0,
+        (false, 255) => 255,
+        (false, _) => blind + 1,
+    }
+}
+
 /// The record after the reading z, by the general filter's steps for one state and one observation.
 fn one_state_correct(yarn: &mut [f32], z: f32) -> Result<(), Stop> {
-    let [x, p, _, _, h, r] = yarn else {
-        panic!("six numbers")
+    let [x, p, _, _, h, r, blind] = yarn else {
+        panic!("six numbers and a count")
     };
     let mut y = [0.0];
     innovation(1, 1, &[*x], &[*h], &[z], &mut y);
@@ -324,6 +336,7 @@ fn one_state_correct(yarn: &mut [f32], z: f32) -> Result<(), Stop> {
     lent.extend(vec![vec![0.0]; 6]);
     let done = update(1, 1, &mut lent);
     (*x, *p) = (lent[0][0], lent[1][0]);
+    *blind = f32::from_bits(blind_after(blind.to_bits(), done.is_ok()));
     done
 }
 

@@ -1,7 +1,7 @@
 //! A call made to the original's code, and the answer of a line: the original's wherever the rules
 //! ask for what the original gives, else the rules', with the tag that says so.
 
-use crate::calls::{same, same_answer, same_buffers, Answer, Call, Function, Tag};
+use crate::calls::{same, same_answer, same_buffers, Answer, Call, Function, Tag, BLIND};
 use crate::model;
 use minikalman::matrix::MatrixDataType;
 use pairs::{Filter, Grid, Square};
@@ -78,7 +78,8 @@ pub fn run(call: &Call) -> Outcome {
             lent.remove(4);
             lent.remove(0);
         }
-        // One yarn: the filter for one state and one observation.
+        // One yarn: the filter for one state and one observation. The original keeps no count: a prediction
+        // leaves the record's, and a correction, which it never refuses, puts it back to 0.
         OneStatePredict => {
             let [x, p, a, q] = [0, 1, 2, 3].map(|i| lent[0][i]);
             let mut all: Vec<_> = [x, a, p, q, 0.0, 0.0].map(|v| vec![v]).into();
@@ -90,7 +91,8 @@ pub fn run(call: &Call) -> Outcome {
             let mut all: Vec<_> = [x, p, h, v[0], r].map(|v| vec![v]).into();
             all.extend(vec![vec![0.0]; 7]);
             pairs::run_filter(Filter::Correct, 1, 1, &mut all);
-            (lent[0][0], lent[0][1]) = (all[0][0], all[1][0])
+            (lent[0][0], lent[0][1]) = (all[0][0], all[1][0]);
+            lent[0][BLIND] = f32::from_bits(0)
         }
         Correct => pairs::run_filter(Filter::Correct, s[0], s[1], &mut lent),
         UpdateWithInnovation => {
@@ -168,8 +170,13 @@ pub fn answer(call: &Call) -> Result<(Tag, Answer), String> {
             columns_before(call.sizes[0], expected.carried as usize, &found, &expected)?;
             expected.clone()
         }
-        // The original has no record; its S at n = m = 1 is refused, and the record stays.
-        (Tag::NanPivot | Tag::InfinitePivot | Tag::Verdict, OneStateCorrect) => expected.clone(),
+        // The original has no record, and goes on: the rules refuse its S, or its new x and p.
+        (Tag::NanPivot | Tag::InfinitePivot | Tag::Verdict | Tag::NotFinite, OneStateCorrect) => {
+            Answer {
+                lent: vec![blinded(&call.lent[0])],
+                ..expected
+            }
+        }
         (Tag::NanPivot | Tag::InfinitePivot | Tag::Verdict, _) => {
             // y and temp_HP as the original computed them, S as the decomposition leaves it,
             // the others as lent.
@@ -215,10 +222,6 @@ pub fn answer(call: &Call) -> Result<(Tag, Answer), String> {
             }
         }
         // The work buffers are the original's, which goes on to its end; x and P are as lent.
-        (Tag::NotFinite, OneStateCorrect) => Answer {
-            lent: call.lent.clone(),
-            ..expected
-        },
         (Tag::NotFinite, _) => {
             let mut lent = found.lent;
             lent[..2].clone_from_slice(&call.lent[..2]);
@@ -243,6 +246,14 @@ pub fn answer(call: &Call) -> Result<(Tag, Answer), String> {
         ));
     }
     Ok((tag, answer))
+}
+
+/// The record after a refused correction: the six numbers as lent, the count one up, or 255 still.
+fn blinded(yarn: &[f32]) -> Vec<f32> {
+    let mut after = yarn.to_vec();
+    let count = after[BLIND].to_bits() as u8;
+    after[BLIND] = f32::from_bits(count.saturating_add(1).into());
+    after
 }
 
 /// Whether the new x and P of a correction, of an update or of a record's correction are finite, as the

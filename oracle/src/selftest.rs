@@ -1,9 +1,9 @@
 //! What the list rests on: the toolchain's empty sum, the checked examples of docs/RULES.md, that the
 //! rules' steps and the original agree on lines of every function, and that lists have what they should.
 
-use crate::calls::{answer_bits, same, same_answer, Answer, Call, Function, Tag, ALL};
+use crate::calls::{answer_bits, same, same_answer, Answer, Call, Function, Tag, ALL, BLIND};
 use crate::examples;
-use crate::generate::{Calls, Plan};
+use crate::generate::{asked_lines, Calls, Plan, ENDS};
 use crate::inputs::Random;
 use crate::model;
 use crate::original::{self, finite};
@@ -182,8 +182,37 @@ pub fn run() -> bool {
             .all(|(z, x, p)| records.contains(&(answer_bits(z), x, p))),
         "80 records are refused for z = NaN and both infinities, for x alone and for p alone",
     );
+    let records = [Function::OneStatePredict, Function::OneStateCorrect];
+    let records: Vec<_> = Calls::new(Plan::Even, 20, &records).take(600).collect();
+    for (what, calls) in [("the fixed list", asked_lines(1)), ("600 records", records)] {
+        say(
+            every_end(&calls),
+            &format!("{what}: counts of 0, 254 and 255 predicted, accepted, refused with each pivot and with 9"),
+        )
+    }
     println!("{passed} passed, {failed} failed");
     failed == 0
+}
+
+/// Whether the records among these calls are predicted, accepted, and refused with each kind of pivot and
+/// with 9, from each count of `ENDS`.
+fn every_end(calls: &[Call]) -> bool {
+    let mut seen = BTreeSet::new();
+    for call in calls.iter().filter(|call| call.function.record()) {
+        if let Ok((tag, _)) = original::answer(call) {
+            seen.insert((call.function, tag, call.lent[0][BLIND].to_bits()));
+        }
+    }
+    [
+        (Function::OneStatePredict, Tag::Rust),
+        (Function::OneStateCorrect, Tag::Rust),
+        (Function::OneStateCorrect, Tag::Verdict),
+        (Function::OneStateCorrect, Tag::NanPivot),
+        (Function::OneStateCorrect, Tag::InfinitePivot),
+        (Function::OneStateCorrect, Tag::NotFinite),
+    ]
+    .iter()
+    .all(|(f, tag)| ENDS.iter().all(|blind| seen.contains(&(*f, *tag, *blind))))
 }
 
 /// So many lines hold a round of what corrections and updates are asked for: 759 lines, one in ten of those

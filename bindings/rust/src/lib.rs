@@ -19,7 +19,7 @@ pub use correction::{correct, innovation, update};
 pub use factors::{cholesky_decompose_lower, invert_l_cholesky};
 pub use filter::{Filter, Observation};
 pub use numbers::{recip, square_root};
-pub use one_state::{one_state_correct, one_state_predict, OneState};
+pub use one_state::OneState;
 pub use prediction::{predict, predict_p, predict_x};
 pub use products::*;
 pub use refusal::Refusal;

@@ -1,4 +1,7 @@
-//! The functions of `include/yurgamysh.h`, as C has them: each slice is a pointer and a length.
+//! The functions of `include/yurgamysh.h`, as C has them: each slice is a pointer and a length, and a
+//! yarn's record a pointer.
+
+use crate::OneState;
 
 extern "C" {
     pub fn yurgamysh_predict(
@@ -102,8 +105,8 @@ extern "C" {
         temp_khp: *mut f32,
         temp_khp_len: usize,
     ) -> usize;
-    pub fn yurgamysh_one_state_predict(record: *mut f32, record_len: usize) -> usize;
-    pub fn yurgamysh_one_state_correct(record: *mut f32, record_len: usize, z: f32) -> usize;
+    pub fn yurgamysh_one_state_predict(yarn: *mut OneState);
+    pub fn yurgamysh_one_state_correct(yarn: *mut OneState, z: f32) -> usize;
     pub fn yurgamysh_cholesky_decompose_lower(n: usize, t: *mut f32, t_len: usize) -> usize;
     pub fn yurgamysh_invert_l_cholesky(
         n: usize,

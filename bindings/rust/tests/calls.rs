@@ -1,4 +1,5 @@
-//! Every function over slices: its result, what it leaves past the matrix, and each refusal.
+//! Every function over slices: its result, what it leaves past the matrix, and each refusal. And those of
+//! the one-state record.
 //!
 //! Sizes differ from each other and no matrix is symmetric, so that two that were exchanged would show.
 
@@ -515,45 +516,70 @@ fn sums_and_differences() {
     }
 }
 
+/// The record's numbers, as bits, and its count.
+fn yarn_bits(yarn: &OneState) -> ([u32; 6], u8) {
+    ([yarn.x, yarn.p, yarn.a, yarn.q, yarn.h, yarn.r].map(f32::to_bits), yarn.blind)
+}
+
+/// The reading is refused so; the count is one up, or still 255, and the numbers keep their bits.
+fn blinds(yarn: &mut OneState, z: f32, refusal: Refusal) {
+    let (numbers, blind) = yarn_bits(yarn);
+    assert_eq!(yarn.correct(z), Err(refusal));
+    assert_eq!(yarn_bits(yarn), (numbers, blind.saturating_add(1)));
+}
+
 #[test]
 fn records() {
-    let mut record = lent(&[3.0, 2.0, 5.0, 7.0, 1.0, 1.0]);
-    one_state_predict(&mut record).unwrap();
-    assert_eq!(record, lent(&[15.0, 57.0, 5.0, 7.0, 1.0, 1.0]));
-    each_short(&[6], |l| one_state_predict(&mut [1.0; 6][..l[0]]));
-
-    let mut record = lent(&[1.0, 3.0, 5.0, 7.0, 1.0, 1.0]);
-    one_state_correct(&mut record, 5.0).unwrap();
-    assert_eq!(record, lent(&[4.0, 0.75, 5.0, 7.0, 1.0, 1.0]));
-    for (p, r) in [(-3.0, 1.0), (0.75, f32::INFINITY), (f32::INFINITY, 1.0)] {
-        (record[1], record[5]) = (p, r);
-        let before = record.clone();
-        assert_eq!(one_state_correct(&mut record, 5.0), Err(Refusal::Pivot(0)));
-        assert_eq!(record, before);
+    const FRESH: OneState = OneState::new(3.0, 2.0, 5.0, 7.0, 1.0, 1.0);
+    assert_eq!(FRESH, OneState { x: 3.0, p: 2.0, a: 5.0, q: 7.0, h: 1.0, r: 1.0, blind: 0 });
+    let good = OneState::new(1.0, 3.0, 5.0, 7.0, 1.0, 1.0);
+    for blind in 0..=255 {
+        let mut yarn = OneState { blind, ..FRESH };
+        yarn.predict();
+        assert_eq!(yarn, OneState { x: 15.0, p: 57.0, blind, ..FRESH });
+        let mut yarn = OneState { blind, ..good };
+        yarn.correct(5.0).unwrap();
+        assert_eq!(yarn, OneState { x: 4.0, p: 0.75, ..good });
+        for (p, r) in [(-3.0, 1.0), (0.75, f32::INFINITY), (f32::INFINITY, 1.0)] {
+            blinds(&mut OneState { p, r, blind, ..good }, 5.0, Refusal::Pivot(0));
+        }
     }
     // Bad readings; x alone and p alone overflow; the largest x; a pivot first.
-    let (good, far) = ([1.0, 3.0, 5.0, 7.0, 1.0, 1.0], [f32::MAX, 4.0, 5.0, 7.0, 0.5, 0.0]);
-    let wide = [1.0, 2f32.powi(126), 5.0, 7.0, 1.0, 2f32.powi(102) - 2f32.powi(126)];
+    let far = OneState::new(f32::MAX, 4.0, 5.0, 7.0, 0.5, 0.0);
+    let wide = OneState { p: 2f32.powi(126), r: 2f32.powi(102) - 2f32.powi(126), ..good };
     let not_finite = [(good, BAD[0]), (good, BAD[1]), (good, BAD[2]), (far, f32::MAX), (wide, 1.0)];
-    for (numbers, z) in not_finite {
-        let mut record = lent(&numbers);
-        assert_eq!(one_state_correct(&mut record, z), Err(Refusal::NotFinite));
-        assert_eq!(record, lent(&numbers));
-        record[1] = -record[1];
-        record[5] = -1.0;
-        let before = record.clone();
-        assert_eq!(one_state_correct(&mut record, z), Err(Refusal::Pivot(0)));
-        assert_eq!(record, before);
+    for (mut yarn, z) in not_finite {
+        blinds(&mut yarn, z, Refusal::NotFinite);
+        (yarn.p, yarn.r) = (-yarn.p, -1.0);
+        blinds(&mut yarn, z, Refusal::Pivot(0));
+        assert_eq!(yarn.blind, 2);
     }
-    let mut record = lent(&far);
-    one_state_correct(&mut record, f32::MAX / 2.0).unwrap();
-    assert_eq!(record, lent(&[f32::MAX, 0.0, 5.0, 7.0, 0.5, 0.0]));
-    // Only the new x and p count: not a, not q, and not what lies past the record.
-    let mut record = [1.0, 3.0, f32::NAN, f32::INFINITY, 1.0, 1.0, f32::NAN];
-    one_state_correct(&mut record, 5.0).unwrap();
-    assert_eq!((record[0], record[1], record[3..6].to_vec()), (4.0, 0.75, vec![f32::INFINITY, 1.0, 1.0]));
-    assert!(record[2].is_nan() && record[6].is_nan());
-    each_short(&[6], |l| one_state_correct(&mut [1.0; 6][..l[0]], 5.0));
+    let mut yarn = far;
+    yarn.correct(f32::MAX / 2.0).unwrap();
+    assert_eq!(yarn, OneState { p: 0.0, ..far });
+    // Only the new x and p count: not a, and not q.
+    let mut yarn = OneState { a: f32::from_bits(0x7fc1_2345), q: f32::INFINITY, blind: 9, ..good };
+    blinds(&mut yarn, f32::NAN, Refusal::NotFinite);
+    let after = OneState { x: 4.0, p: 0.75, blind: 0, ..yarn };
+    yarn.correct(5.0).unwrap();
+    assert_eq!(yarn_bits(&yarn), yarn_bits(&after));
+}
+
+/// A call on one feeder of a row leaves the others.
+#[test]
+fn feeders_in_a_row() {
+    let row: [OneState; 12] = std::array::from_fn(|i| OneState::new(i as f32, 3.0, 2.0, 7.0, 1.0, 1.0));
+    for i in 0..row.len() {
+        let mut feeders = row;
+        feeders[i].predict();
+        feeders[i].correct(5.0).unwrap();
+        blinds(&mut feeders[i], f32::NAN, Refusal::NotFinite);
+        feeders[i].r = f32::NEG_INFINITY;
+        blinds(&mut feeders[i], 5.0, Refusal::Pivot(0));
+        assert_eq!(feeders[i].blind, 2);
+        feeders[i] = row[i];
+        assert_eq!(feeders, row);
+    }
 }
 
 #[test]

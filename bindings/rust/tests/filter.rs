@@ -210,14 +210,15 @@ fn a_filter_that_a_prediction_spoilt() {
 fn a_night_with_bad_readings() {
     let (mut f, mut o) = (filter(), observation());
     let (mut without, mut seen) = (filter(), observation());
-    let mut yarn = OneState { x: 35.0, p: 4.0, a: 1.0, q: 0.05, h: 1.0, r: 2.0 };
+    let mut yarn = OneState::new(35.0, 4.0, 1.0, 0.05, 1.0, 2.0);
     let (mut yarn_without, mut bad) = (yarn, 0);
     for step in 0..300 {
         for filter in [&mut f, &mut without] {
             *filter.state_transition_mut() = [[0.9, 0.1], [0.0, 0.9]];
             filter.predict();
         }
-        (yarn, yarn_without) = (yarn.predict(), yarn_without.predict());
+        yarn.predict();
+        yarn_without.predict();
         let tension = 35.0 + (step % 7) as f32 * 0.25;
         let readings = [tension, -3.0 + (step % 5) as f32, 11.0];
         *o.measurement_vector_mut() = readings;
@@ -225,13 +226,13 @@ fn a_night_with_bad_readings() {
             let z = BAD[bad % 3];
             o.measurement_vector_mut()[step % 3] = z;
             assert_eq!(f.correct(&mut o), Err(Refusal::NotFinite));
-            assert_eq!(yarn.correct(z), Err(Refusal::NotFinite));
+            assert_eq!((yarn.correct(z), yarn.blind), (Err(Refusal::NotFinite), 1));
             bad += 1;
         } else {
             *seen.measurement_vector_mut() = readings;
             assert_eq!((f.correct(&mut o), without.correct(&mut seen)), (Ok(()), Ok(())));
-            yarn = yarn.correct(tension).unwrap();
-            yarn_without = yarn_without.correct(tension).unwrap();
+            assert_eq!((yarn.correct(tension), yarn_without.correct(tension)), (Ok(()), Ok(())));
+            assert_eq!(yarn.blind, 0);
         }
         assert!(is_finite(&f) && yarn.x.is_finite() && yarn.p.is_finite());
     }
@@ -356,7 +357,7 @@ fn the_largest_sizes() {
 /// The one-state record has the bits of the filter at one state and one reading.
 #[test]
 fn one_yarn_both_ways() {
-    let mut yarn = OneState { x: 1.1, p: 3.3, a: 0.9, q: 0.01, h: 1.3, r: 0.7 };
+    let mut yarn = OneState::new(1.1, 3.3, 0.9, 0.01, 1.3, 0.7);
     let mut f = Filter::<1>::new()
         .with_state_vector([yarn.x])
         .with_state_transition([[yarn.a]])
@@ -368,15 +369,41 @@ fn one_yarn_both_ways() {
     for step in 0..100 {
         let z = 2.0 + 0.1 * (step % 7) as f32;
         let settings = (yarn.a, yarn.q, yarn.h, yarn.r);
-        yarn = yarn.predict();
+        yarn.predict();
         assert_eq!((yarn.a, yarn.q, yarn.h, yarn.r), settings);
-        yarn = yarn.correct(z).unwrap();
+        yarn.correct(z).unwrap();
         assert_eq!((yarn.a, yarn.q, yarn.h, yarn.r), settings);
         f.predict();
         o.measurement_vector_mut()[0] = z;
         f.correct(&mut o).unwrap();
         assert_eq!(yarn.x.to_bits(), f.state_vector()[0].to_bits());
         assert_eq!(yarn.p.to_bits(), f.estimate_covariance()[0][0].to_bits());
+    }
+}
+
+/// A feeder that is blind for 300 readings, with a prediction before each: the count shows 1 to 255 and
+/// stays there, the estimate keeps, and the first good reading sets the count to 0.
+#[test]
+fn a_blind_feeder() {
+    let well = OneState::new(35.0, 4.0, 1.0, 0.0625, 1.0, 2.0);
+    let faults = [
+        (well, f32::NAN, Refusal::NotFinite),
+        (OneState { r: f32::NEG_INFINITY, ..well }, 36.0, Refusal::Pivot(0)),
+        (OneState { p: -1000.0, ..well }, 36.0, Refusal::Pivot(0)),
+    ];
+    for (mut yarn, z, refusal) in faults {
+        for step in 1..=300 {
+            yarn.predict();
+            let before = yarn;
+            assert_eq!(yarn.correct(z), Err(refusal));
+            assert_eq!(yarn, OneState { blind: step.min(255) as u8, ..before });
+        }
+        // The fault is mended, if it was the record's.
+        (yarn.p, yarn.r) = (well.p, well.r);
+        yarn.predict();
+        assert_eq!(yarn.blind, 255);
+        assert_eq!((yarn.correct(36.0), yarn.blind), (Ok(()), 0));
+        assert!((35.0..36.0).contains(&yarn.x));
     }
 }
 

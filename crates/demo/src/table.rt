@@ -8,6 +8,7 @@ use figures::plain;
 use figures::right;
 use figures::text;
 use figures::whole;
+use one_state::OneState;
 use shift::Outcome;
 use shift::Reading;
 use shift::Step;
@@ -25,6 +26,8 @@ fn reading(g: Reading) {
         Reading::Arrived(z, _) => {
             if z != z {
                 text(b"     NaN");
+            } else if z == 1.0 / 0.0 {
+                text(b"     inf");
             } else {
                 number(z);
             }
@@ -55,11 +58,13 @@ fn outcome(o: Outcome) {
     }
 }
 
-// Behind the answer: that the reading or its noise is not a number, or the noise infinite.
+// Behind the answer: that the reading or its noise is not a number, or infinite.
 fn remark(g: Reading) {
     if let Reading::Arrived(z, r) = g {
         if z != z {
             text(b" (the reading is not a number)");
+        } else if z == 1.0 / 0.0 {
+            text(b" (the reading is infinite)");
         } else if r != r {
             text(b" (R is not a number)");
         } else if r == 1.0 / 0.0 {
@@ -109,4 +114,41 @@ pub fn foot(t: Tally)
         plain(t.after);
         text(b" after it.\n");
     }
+}
+
+// The title and the columns' names of the yarn's table.
+pub fn yarn_head() {
+    text(
+        b"\nAnother yarn, by the record of one state: blind is how many readings in a row were refused\n\n",
+    );
+    text(b" step   reading  estimate    spread  blind  answer\n");
+}
+
+// What the operator is told once three readings or more in a row were refused.
+fn alarm(yarn: OneState) {
+    if 2 < yarn.blind {
+        text(b", blind for ");
+        whole(yarn.blind as u64);
+        text(b" readings");
+    }
+}
+
+// The line of step n.
+pub fn yarn_line(n: u64, g: Reading, s: yarn_shift::Step) {
+    let after = s.after;
+    let o = s.outcome;
+    right(n);
+    gap();
+    reading(g);
+    gap();
+    number(after.x);
+    gap();
+    number(data_type::square_root(after.p));
+    gap();
+    right(after.blind as u64);
+    gap();
+    outcome(o);
+    alarm(after);
+    remark(g);
+    text(b"\n");
 }

@@ -1,9 +1,12 @@
-// The shift from its first step to its last.
+// The shifts from their first step to their last.
+ghost use mathlib.Core.Path.{_≡_};
 ghost use Rattle.shift.specs.Tally.{Worked};
+ghost use Rattle.yarn_shift.specs.Step.{watched};
 use crate::table;
+use one_state::OneState;
 use shift::Tally;
 
-// Runs every step of the shift, and writes its line.
+// Runs every step of the feeder's shift, and writes its line.
 pub fn run() -> Tally
     ensures { λ r. ⌜ Worked 18 r ⌝ }
 {
@@ -25,4 +28,20 @@ pub fn run() -> Tally
         i += 1;
     }
     t
+}
+
+// Runs every step of the yarn's shift, and writes its line: the yarn at its end.
+pub fn watch() -> OneState
+    ensures { λ r. ⌜ r ≡ watched 10 ⌝ }
+{
+    let mut yarn = yarn_shift::start();
+    let mut i: usize = 0;
+    while i < yarn_shift::STEPS {
+        let g = yarn_shift::arriving(i);
+        let s = yarn_shift::advance(yarn, g);
+        table::yarn_line(i as u64 + 1, g, s);
+        yarn = s.after;
+        i += 1;
+    }
+    yarn
 }

@@ -81,7 +81,7 @@ pub fn float_met(s: &[u8], o: Seen, buffer: usize, index: usize, x: f32) -> Seen
 }
 
 // The number n, at most 32 bits, against the next word.
-fn whole_met(s: &[u8], o: Seen, buffer: usize, index: usize, n: usize) -> Seen
+pub fn whole_met(s: &[u8], o: Seen, buffer: usize, index: usize, n: usize) -> Seen
     ensures { λ r. ⌜ r ≡ wholeMet (now (s .entry)) o buffer index n ⌝ }
 {
     let w = lines::word_at(s, o.next);

@@ -15,7 +15,7 @@ use Rattle.factors.specs.Pivots.{pivotTaken}
 use Rattle.one_state.specs.declared.OneState.{OneState}
 use Rattle.one_state.specs.declared.Corrected.{Corrected}
 use Rattle.one_state.specs.declared.Corrected.the-variants.{Accepted, Refused}
-use Rattle.one_state.specs.OneState.{spread, predicted, renewed, finiteXP, corrected, handedBack}
+use Rattle.one_state.specs.OneState.{spread, predicted, renewed, blinded, finiteXP, corrected, handedBack}
 use Rattle.one_state.proofs.Cases.{accepted, not-finite, refused}
 
 -- one of two tests fails, and with it one of two others
@@ -39,21 +39,21 @@ predicted-spoilt s bad =
 
 module _ (s : OneState) (z : Float) where
   -- a new x or p that is not finite is refused, with 4 or with 9
-  pub comes-back-refused : finiteXP (renewed s z) ≡ false → (v : Answer) × (corrected s z ≡ Refused s v)
+  pub comes-back-refused : finiteXP (renewed s z) ≡ false → (v : Answer) × (corrected s z ≡ Refused (blinded s) v)
   comes-back-refused bad = go (pivotTaken (spread binary32 (s .h) (s .p) (s .r))) refl
     where
-      go : (t : Bool) → pivotTaken (spread binary32 (s .h) (s .p) (s .r)) ≡ t → (v : Answer) × (corrected s z ≡ Refused s v)
+      go : (t : Bool) → pivotTaken (spread binary32 (s .h) (s .p) (s .r)) ≡ t → (v : Answer) × (corrected s z ≡ Refused (blinded s) v)
       go true k = (NotFinite, not-finite s z k bad)
       go false k = (Pivot 0, refused s z k)
 
-  -- A record whose x or p is not finite is refused, and stays ..
-  pub spoilt : finiteXP s ≡ false → (v : Answer) × (corrected s z ≡ Refused s v)
+  -- A record whose x or p is not finite is refused ..
+  pub spoilt : finiteXP s ≡ false → (v : Answer) × (corrected s z ≡ Refused (blinded s) v)
   spoilt bad =
       comes-back-refused
       (carries (finite (s .x)) (finite (s .p)) (finite (renewed s z .x)) (finite (renewed s z .p)) (λ h. not-finite-plus binary32 _ _ h) (λ h. not-finite-less binary32 _ _ h) bad)
 
   -- .. and so is any record by a reading that is NaN or infinite.
-  pub bad-reading : finite z ≡ false → (v : Answer) × (corrected s z ≡ Refused s v)
+  pub bad-reading : finite z ≡ false → (v : Answer) × (corrected s z ≡ Refused (blinded s) v)
   bad-reading bad =
       comes-back-refused
       (ap (λ (t : Bool). t && finite (renewed s z .p)) (plus-not-finite binary32 (s .x) _ (times-not-finite binary32 _ _ (not-finite-less binary32 z _ bad))))
@@ -64,8 +64,8 @@ module _ (s : OneState) (z : Float) where
     where
       go : (a b : Bool) → pivotTaken (spread binary32 (s .h) (s .p) (s .r)) ≡ a → finiteXP (renewed s z) ≡ b → finiteXP t ≡ true
       go true true k q = let w : Accepted (renewed s z) ≡ Accepted t = sym (accepted s z k q) ∙ e in let same : renewed s z ≡ t = cc in ap finiteXP (sym same) ∙ q
-      go true false k q = no-accepted t s NotFinite (sym (not-finite s z k q) ∙ e)
-      go false b k q = no-accepted t s (Pivot 0) (sym (refused s z k) ∙ e)
+      go true false k q = no-accepted t (blinded s) NotFinite (sym (not-finite s z k q) ∙ e)
+      go false b k q = no-accepted t (blinded s) (Pivot 0) (sym (refused s z k) ∙ e)
 
   -- .. and so were those before.
   pub found-finite : (t : OneState) → corrected s z ≡ Accepted t → finiteXP s ≡ true
@@ -73,7 +73,7 @@ module _ (s : OneState) (z : Float) where
     where
       go : (b : Bool) → finiteXP s ≡ b → finiteXP s ≡ true
       go true q = q
-      go false q = let w = spoilt q in no-accepted t s (w .0) (sym (w .1) ∙ e)
+      go false q = let w = spoilt q in no-accepted t (blinded s) (w .0) (sym (w .1) ∙ e)
 
   -- Whatever it answers, a finite x and p stay finite.
   pub stays-finite : finiteXP s ≡ true → finiteXP (handedBack (corrected s z)) ≡ true

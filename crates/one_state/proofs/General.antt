@@ -32,7 +32,7 @@ use Rattle.filters.specs.Corrected as observations
 use Rattle.filters.proofs.Exactly.{past}
 use Rattle.one_state.specs.declared.OneState.{OneState}
 use Rattle.one_state.specs.declared.Corrected.the-variants.{Refused}
-use Rattle.one_state.specs.OneState.{timed, inverted, predictedX, predictedP, innovation, spread, gain, correctedX, correctedP, predicted, renewed, finiteXP, corrected}
+use Rattle.one_state.specs.OneState.{timed, inverted, predictedX, predictedP, innovation, spread, gain, correctedX, correctedP, predicted, renewed, blinded, finiteXP, corrected}
 use Rattle.one_state.specs.General.{front, Agrees}
 use Rattle.one_state.proofs.Cases.{accepted, not-finite, refused}
 
@@ -185,11 +185,11 @@ correct-agrees s z b v e hx hp hh hr hz call gate = go (pivotTaken (spread binar
     there-too t k = rw (hx, hh, hp, hr, hz) k
 
     -- refused on both sides, with one answer
-    both-refused : (w : Answer) → v ≡ w → isDone w ≡ false → corrected s z ≡ Refused s w → (v ≡ Done) ⊎ ((v ≡ Pivot 0) ⊎ (v ≡ NotFinite)) → Agrees s z b v e
+    both-refused : (w : Answer) → v ≡ w → isDone w ≡ false → corrected s z ≡ Refused (blinded s) w → (v ≡ Done) ⊎ ((v ≡ Pivot 0) ⊎ (v ≡ NotFinite)) → Agrees s z b v e
     both-refused w q d k o =
         let no-done : isDone v ≡ false = ap isDone q ∙ d in
         let kept = stay binary32 b v e call gate no-done in
-        record { done = λ t. absurd (true≢false (sym t ∙ no-done)); refused = λ _. (k ∙ ap (Refused s) (sym q), kept .0, kept .1); only = o }
+        record { done = λ t. absurd (true≢false (sym t ∙ no-done)); refused = λ _. (k ∙ ap (Refused (blinded s)) (sym q), kept .0, kept .1); only = o }
 
     go : (t u : Bool) → pivotTaken (spread binary32 (s .h) (s .p) (s .r)) ≡ t → finiteXP (renewed s z) ≡ u → Agrees s z b v e
     go false u k j = let q : v ≡ Pivot 0 = answered binary32 b v e call gate ∙ rw (there false k) refl in both-refused (Pivot 0) q refl (refused s z k) (inr (inl q))

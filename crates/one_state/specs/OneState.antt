@@ -1,5 +1,7 @@
--- The filter of one yarn (R21), in the general filter's order of operations at n = m = 1. Definitions only.
+-- The filter of one yarn (R21), in the general filter's order of operations at n = m = 1, and its count of corrections refused in a row (R32). Definitions only.
+use mathlib.Core.Path.{_≡_}
 use mathlib.Core.Bool.{Bool, cond, _&&_}
+use Prim.Native.Nat.{ℕ, min, _+_}
 use lib.Ieee.{Float, Format, binary32, add, sub, mul}
 use lib.Ieee.Scale.{finite}
 use Rattle.answers.specs.declared.Answer.{Answer}
@@ -54,24 +56,50 @@ correctedP f p h r = sub f p (timed f (gain f h p r) (timed f h p))
 
 -- ---- the record
 
-unfoldable pub predicted : OneState → OneState
-predicted s = record { x = predictedX binary32 (s .a) (s .x); p = predictedP binary32 (s .a) (s .p) (s .q); a = s .a; q = s .q; h = s .h; r = s .r }
+-- the record of six numbers of which no correction was refused yet
+abbrev pub fresh : Float → Float → Float → Float → Float → Float → OneState
+fresh x p a q h r = record { x = x; p = p; a = a; q = q; h = h; r = r; blind = 0 }
 
+-- s with another x and p
+abbrev pub withXP : OneState → Float → Float → OneState
+withXP s x p = record { x = x; p = p; a = s .a; q = s .q; h = s .h; r = s .r; blind = s .blind }
+
+-- s with another count
+abbrev pub withBlind : OneState → ℕ → OneState
+withBlind s c = record { x = s .x; p = s .p; a = s .a; q = s .q; h = s .h; r = s .r; blind = c }
+
+-- the six numbers of t are those of s
+pub record SameSix (s t : OneState) : Type 0 where
+  pub same-x : t .x ≡ s .x
+  pub same-p : t .p ≡ s .p
+  pub same-a : t .a ≡ s .a
+  pub same-q : t .q ≡ s .q
+  pub same-h : t .h ≡ s .h
+  pub same-r : t .r ≡ s .r
+
+-- A prediction leaves the count.
+unfoldable pub predicted : OneState → OneState
+predicted s = withXP s (predictedX binary32 (s .a) (s .x)) (predictedP binary32 (s .a) (s .p) (s .q))
+
+-- an accepted correction puts it back to 0
 abbrev pub renewed : OneState → Float → OneState
-renewed s z =
-    record { x = correctedX binary32 (s .x) (s .p) (s .h) (s .r) z; p = correctedP binary32 (s .p) (s .h) (s .r); a = s .a; q = s .q; h = s .h; r = s .r }
+renewed s z = withBlind (withXP s (correctedX binary32 (s .x) (s .p) (s .h) (s .r) z) (correctedP binary32 (s .p) (s .h) (s .r))) 0
+
+-- one refusal more, stopping at 255
+abbrev pub oneMore : ℕ → ℕ
+oneMore c = min (c + 1) 255
+
+-- a refused correction counts, and changes nothing else
+abbrev pub blinded : OneState → OneState
+blinded s = withBlind s (oneMore (s .blind))
 
 -- the record's x and p are finite
 abbrev pub finiteXP : OneState → Bool
 finiteXP s = finite (s .x) && finite (s .p)
 
--- A pivot that is refused hands the record back as it was, with 4 and index 0; a new x or p that is not finite does so with 9.
+-- A pivot that is refused hands the record back blinded, with 4 and index 0; a new x or p that is not finite does so with 9.
 unfoldable pub corrected : OneState → Float → Corrected
-corrected s z = cond (pivotTaken (spread binary32 (s .h) (s .p) (s .r))) (cond (finiteXP (renewed s z)) (Accepted (renewed s z)) (Refused s NotFinite)) (Refused s (Pivot 0))
-
--- s with another x and p
-abbrev pub withXP : OneState → Float → Float → OneState
-withXP s x p = record { x = x; p = p; a = s .a; q = s .q; h = s .h; r = s .r }
+corrected s z = cond (pivotTaken (spread binary32 (s .h) (s .p) (s .r))) (cond (finiteXP (renewed s z)) (Accepted (renewed s z)) (Refused (blinded s) NotFinite)) (Refused (blinded s) (Pivot 0))
 
 -- ---- what a correction says: refusal 4 and the pivot's index, refusal 9, or done; and the record that it hands back
 

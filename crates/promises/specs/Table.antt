@@ -13,7 +13,8 @@ use Rattle.factors.specs.Inverse.{inverse}
 use Rattle.filters.specs.Prediction.{predictedX, tempP, predictedP}
 use Rattle.filters.specs.Correction.{innovationOf, residualOf, gainOf, newX, newP}
 use Rattle.filters.specs.Corrected.{finiteAnswer}
-use Rattle.one_state.specs.OneState.{spread, gain, correctedX, correctedP, corrected, answerOf}
+use Rattle.one_state.specs.declared.OneState.{OneState}
+use Rattle.one_state.specs.OneState.{spread, gain, correctedX, correctedP, fresh, withBlind, predicted, corrected, answerOf, handedBack}
 
 -- ---- how a line is read
 
@@ -72,12 +73,20 @@ tests x p h r z number =
 unfoldable pub says : ℕ → ℕ → ℕ → ℕ → ℕ → ℕ → Bool
 says x p h r z number =
     let of = ofBits binary32 in
-    eqb (numberOf (answerOf (corrected (record { x = of x; p = of p; a = of 0x3f800000; q = of 0; h = of h; r = of r }) (of z)))) number
+    eqb (numberOf (answerOf (corrected (fresh (of x) (of p) (of 0x3f800000) (of 0) (of h) (of r)) (of z)))) number
+
+-- the record x = 1, p = 3, a = h = 1, q = 0, r, refused `before` times in a row
+abbrev yarn : ℕ → ℕ → OneState
+yarn r before = let of = ofBits binary32 in withBlind (fresh (of 0x3f800000) (of 0x40400000) (of 0x3f800000) (of 0) (of 0x3f800000) (of r)) before
+
+-- it has this count after a correction by the reading z
+unfoldable pub blinds : ℕ → ℕ → ℕ → ℕ → Bool
+blinds r before z after = eqb (handedBack (corrected (yarn r before) (ofBits binary32 z)) .blind) after
 
 -- ---- the table
 
 unfoldable pub table : Bool
-unfolding has are leaves inverts tests says
+unfolding has are leaves inverts tests says blinds
 table =
     -- roots of 4 and 2
     has (sqrtOf binary32 (ofBits binary32 0x40800000)) 0x40000000
@@ -139,6 +148,18 @@ table =
     -- an x that is +∞ already, and a p: 9, and 4
     && says 0x7f800000 0x40400000 0x3f800000 0x3f800000 0x40a00000 9
     && says 0x3f800000 0x7f800000 0x3f800000 0x3f800000 0x40a00000 4
+    -- how often in a row it was refused: by 5 it is done, by NaN refused with 9, and with r = −5 with 4; a prediction leaves it
+    && blinds 0x3f800000 0 0x40a00000 0
+    && blinds 0x3f800000 7 0x40a00000 0
+    && blinds 0x3f800000 255 0x40a00000 0
+    && blinds 0x3f800000 0 0x7fc00000 1
+    && blinds 0x3f800000 2 0x7fc00000 3
+    && blinds 0x3f800000 254 0x7fc00000 255
+    && blinds 0x3f800000 255 0x7fc00000 255
+    && blinds 0xc0a00000 0 0x40a00000 1
+    && blinds 0xc0a00000 254 0x40a00000 255
+    && blinds 0xc0a00000 255 0x40a00000 255
+    && eqb (predicted (yarn 0x3f800000 9) .blind) 9
     -- −1 times +0, without and with a +0 in front
     && has (rowProduct binary32 1 (values (0xbf800000 ∷ [])) (values (0x00000000 ∷ [])) 0) 0x80000000
     && has (product binary32 1 1 (values (0xbf800000 ∷ [])) (values (0x00000000 ∷ [])) 0 0) 0x00000000

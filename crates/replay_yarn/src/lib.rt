@@ -1,7 +1,7 @@
-// A line of the one-state filter: the record of one yarn, six numbers behind their count, and for a
-// correction the reading.
+// A line of the one-state filter: the record of one yarn, seven words behind their count, six numbers
+// and how many corrections were refused in a row, and for a correction the reading.
 ghost use mathlib.Core.Path.{_≡_};
-ghost use Rattle.replay_yarn.specs.Yarn.{sixAt, lentAt, yarnMet, predictMet, correctMet};
+ghost use Rattle.replay_yarn.specs.Yarn.{sevenAt, blindAt, lentAt, yarnMet, predictMet, correctMet};
 use answers::Answer;
 use lists::Seen;
 use lists::Shape;
@@ -16,15 +16,39 @@ struct Lent {
     next: usize,
 }
 
-// The position behind a count of six. Behind any other the line is lost.
-fn six_at(s: &[u8], at: usize) -> usize
-    ensures { λ r. ⌜ r ≡ sixAt (now (s .entry)) at ⌝ }
+// How often a record was refused in a row, as a line has it, and the position behind it.
+struct Blind {
+    blind: u8,
+    next: usize,
+}
+
+// The position behind a count of seven. Behind any other the line is lost.
+fn seven_at(s: &[u8], at: usize) -> usize
+    ensures { λ r. ⌜ r ≡ sevenAt (now (s .entry)) at ⌝ }
 {
     let count = lines::word_at(s, at);
-    if count.bits == 6 {
+    if count.bits == 7 {
         count.next
     } else {
         lines::LOST
+    }
+}
+
+// The byte at a position. Behind a larger number the line is lost.
+fn blind_at(s: &[u8], at: usize) -> Blind
+    ensures { λ r. ⌜ r ≡ blindAt (now (s .entry)) at ⌝ }
+{
+    let w = lines::word_at(s, at);
+    if w.bits < 256 {
+        Blind {
+            blind: w.bits as u8,
+            next: w.next,
+        }
+    } else {
+        Blind {
+            blind: 0,
+            next: lines::LOST,
+        }
     }
 }
 
@@ -32,12 +56,13 @@ fn six_at(s: &[u8], at: usize) -> usize
 fn lend(s: &[u8], at: usize) -> Lent
     ensures { λ r. ⌜ r ≡ lentAt (now (s .entry)) at ⌝ }
 {
-    let x = lines::word_at(s, six_at(s, at));
+    let x = lines::word_at(s, seven_at(s, at));
     let p = lines::word_at(s, x.next);
     let a = lines::word_at(s, p.next);
     let q = lines::word_at(s, a.next);
     let h = lines::word_at(s, q.next);
     let r = lines::word_at(s, h.next);
+    let b = blind_at(s, r.next);
     Lent {
         yarn: OneState {
             x: lines::float_of(x.bits),
@@ -46,8 +71,9 @@ fn lend(s: &[u8], at: usize) -> Lent
             q: lines::float_of(q.bits),
             h: lines::float_of(h.bits),
             r: lines::float_of(r.bits),
+            blind: b.blind,
         },
-        next: r.next,
+        next: b.next,
     }
 }
 
@@ -56,13 +82,14 @@ fn met(s: &[u8], at: usize, v: Answer, yarn: OneState) -> Seen
     ensures { λ r. ⌜ r ≡ yarnMet (now (s .entry)) at v yarn ⌝ }
 {
     let mut o = seen::answer_met(s, at, v);
-    o.next = six_at(s, o.next);
+    o.next = seven_at(s, o.next);
     let x = seen::float_met(s, o, 0, 0, yarn.x);
     let p = seen::float_met(s, x, 0, 1, yarn.p);
     let a = seen::float_met(s, p, 0, 2, yarn.a);
     let q = seen::float_met(s, a, 0, 3, yarn.q);
     let h = seen::float_met(s, q, 0, 4, yarn.h);
-    seen::float_met(s, h, 0, 5, yarn.r)
+    let r = seen::float_met(s, h, 0, 5, yarn.r);
+    seen::whole_met(s, r, 0, 6, yarn.blind as usize)
 }
 
 // The prediction of a line, compared.
