@@ -1,2 +1,2 @@
--- Laws behind the contracts: the ways out of a call, and that x and p are enough to store.
+-- Laws behind the contracts: the ways out of a correction by value, and what a refused one leaves.
 pub mod Yarns

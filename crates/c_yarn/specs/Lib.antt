@@ -1,2 +1,2 @@
--- The definitions that the contracts cite: the record of six numbers, and what the calls promise.
+-- The definitions that the contracts cite: what a correction of a record promises.
 pub mod Yarn
