@@ -9,10 +9,10 @@ use figures::right;
 use figures::text;
 use figures::whole;
 use one_state::OneState;
-use shift::Outcome;
-use shift::Reading;
 use shift::Step;
 use shift::Tally;
+use wire::Outcome;
+use wire::Reading;
 
 // The standard deviation of the tension, the root of P(0, 0).
 fn spread(f: Feeder) {

@@ -6,10 +6,10 @@ use native.Mathlib.Omega.{arith}
 use lib.Ieee.{Float}
 use Rattle.answers.specs.declared.Answer.{Answer}
 use Rattle.answers.specs.Answers.{isDone}
-use Rattle.shift.specs.declared.readings.Reading.{Reading}
+use Rattle.wire.specs.declared.Reading.{Reading}
 use Rattle.feeder.specs.declared.Feeder.{Feeder}
-use Rattle.shift.specs.declared.step.Outcome.{Outcome}
-use Rattle.shift.specs.declared.step.Outcome.the-variants.{NoReading, Answered}
+use Rattle.wire.specs.declared.Outcome.{Outcome}
+use Rattle.wire.specs.declared.Outcome.the-variants.{NoReading, Answered}
 use Rattle.shift.specs.declared.step.Step.{Step}
 use Rattle.shift.specs.declared.tally.Tally.{Tally}
 use Rattle.shift.specs.Readings.{Brings}

@@ -5,9 +5,9 @@ use Rattle.answers.specs.declared.Answer.{Answer}
 use Rattle.feeder.specs.declared.Feeder.{Feeder}
 use Rattle.feeder.specs.Feeder.{forecast, Took}
 use Rattle.feeder.proofs.Keeping.{refused-keeps}
-use Rattle.shift.specs.declared.readings.Reading.{Reading}
-use Rattle.shift.specs.declared.readings.Reading.the-variants.{Arrived, Lost}
-use Rattle.shift.specs.declared.step.Outcome.the-variants.{NoReading, Answered}
+use Rattle.wire.specs.declared.Reading.{Reading}
+use Rattle.wire.specs.declared.Reading.the-variants.{Arrived, Lost}
+use Rattle.wire.specs.declared.Outcome.the-variants.{NoReading, Answered}
 use Rattle.shift.specs.Step.{Advanced}
 
 module _ (f p : Feeder) (g : Reading) (e : p ≡ forecast f) where

@@ -4,8 +4,8 @@ use mathlib.Core.Bool.{false, cond}
 use Prim.Native.Nat.{ℕ}
 use lib.Dec.{eqb}
 use lib.Ieee.{Float, nan, inf, binary32, ofBits}
-use Rattle.shift.specs.declared.readings.Reading.{Reading}
-use Rattle.shift.specs.declared.readings.Reading.the-variants.{Arrived, Lost}
+use Rattle.wire.specs.declared.Reading.{Reading}
+use Rattle.wire.specs.declared.Reading.the-variants.{Arrived, Lost}
 
 -- the noise R in step n, counted from 0: 4, in step 11 not a number, and in step 15 +∞
 abbrev pub noiseIn : ℕ → Float

@@ -6,10 +6,10 @@ use Rattle.answers.specs.declared.Answer.{Answer}
 use Rattle.answers.specs.Answers.{isDone}
 use Rattle.feeder.specs.declared.Feeder.{Feeder}
 use Rattle.feeder.specs.Feeder.{forecast, Took}
-use Rattle.shift.specs.declared.readings.Reading.{Reading}
-use Rattle.shift.specs.declared.readings.Reading.the-variants.{Arrived, Lost}
-use Rattle.shift.specs.declared.step.Outcome.{Outcome}
-use Rattle.shift.specs.declared.step.Outcome.the-variants.{NoReading, Answered}
+use Rattle.wire.specs.declared.Reading.{Reading}
+use Rattle.wire.specs.declared.Reading.the-variants.{Arrived, Lost}
+use Rattle.wire.specs.declared.Outcome.{Outcome}
+use Rattle.wire.specs.declared.Outcome.the-variants.{NoReading, Answered}
 use Rattle.shift.specs.declared.step.Step.{Step}
 
 -- the reading was taken

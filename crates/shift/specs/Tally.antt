@@ -4,10 +4,10 @@ use mathlib.Core.Bool.{cond}
 use Prim.Native.Nat.{ℕ, _+_}
 use lib.Ieee.{Float}
 use Rattle.answers.specs.Answers.{isDone}
-use Rattle.shift.specs.declared.readings.Reading.{Reading}
+use Rattle.wire.specs.declared.Reading.{Reading}
 use Rattle.feeder.specs.declared.Feeder.{Feeder}
-use Rattle.shift.specs.declared.step.Outcome.{Outcome}
-use Rattle.shift.specs.declared.step.Outcome.the-variants.{NoReading, Answered}
+use Rattle.wire.specs.declared.Outcome.{Outcome}
+use Rattle.wire.specs.declared.Outcome.the-variants.{NoReading, Answered}
 use Rattle.shift.specs.declared.step.Step.{Step}
 use Rattle.shift.specs.declared.tally.Tally.{Tally}
 use Rattle.shift.specs.Readings.{Brings}

@@ -3,10 +3,8 @@ mod readings;
 mod step;
 mod tally;
 
-pub use readings::Reading;
 pub use readings::STEPS;
 pub use readings::arriving;
-pub use step::Outcome;
 pub use step::Step;
 pub use step::advance;
 pub use tally::Tally;

@@ -1,14 +1,7 @@
 // The readings of the shift.
 ghost use Prim.Native.Nat.{_<_};
 ghost use Rattle.shift.specs.Readings.{Brings};
-
-// What the wire brings in a step.
-pub enum Reading {
-    // The tension in cN, and the reading's noise R in cN².
-    Arrived(f32, f32),
-    // Nothing: the wire was dropped.
-    Lost,
-}
+use wire::Reading;
 
 // How many steps the shift has.
 pub const STEPS: usize = 18;

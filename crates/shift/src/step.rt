@@ -1,18 +1,10 @@
 // A step of the shift: the prediction, and the correction by a reading where one arrives.
 ghost use Rattle.shift.specs.Step.{Advanced};
-use crate::readings::Reading;
-use answers::Answer;
 use feeder::Feeder;
 use feeder::correct;
 use feeder::predict;
-
-// What became of a step's reading.
-pub enum Outcome {
-    // None arrived.
-    NoReading,
-    // One did: what the correction answered.
-    Answered(Answer),
-}
+use wire::Outcome;
+use wire::Reading;
 
 // A step of the shift: the feeder as predicted, what became of the reading, and the feeder after it.
 pub struct Step {

@@ -2,8 +2,8 @@
 ghost use mathlib.Core.Path.{_≡_};
 ghost use Prim.Native.Nat.{_<_};
 ghost use Rattle.shift.specs.Tally.{total, counted};
-use crate::step::Outcome;
 use crate::step::Step;
+use wire::Outcome;
 
 // What became of the readings, and the tension's estimate before and after the last refusal.
 pub struct Tally {

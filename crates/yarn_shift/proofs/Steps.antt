@@ -4,9 +4,9 @@ use lib.Ieee.{Float}
 use Rattle.one_state.specs.declared.OneState.{OneState}
 use Rattle.one_state.specs.declared.Corrected.{Corrected}
 use Rattle.one_state.specs.OneState.{predicted, corrected, answerOf, handedBack}
-use Rattle.shift.specs.declared.readings.Reading.{Reading}
-use Rattle.shift.specs.declared.readings.Reading.the-variants.{Arrived, Lost}
-use Rattle.shift.specs.declared.step.Outcome.the-variants.{NoReading, Answered}
+use Rattle.wire.specs.declared.Reading.{Reading}
+use Rattle.wire.specs.declared.Reading.the-variants.{Arrived, Lost}
+use Rattle.wire.specs.declared.Outcome.the-variants.{NoReading, Answered}
 use Rattle.yarn_shift.specs.declared.step.Step.{Step}
 use Rattle.yarn_shift.specs.Step.{noisy, advanced}
 

@@ -3,7 +3,7 @@ use mathlib.Core.Path.{_≡_, ap}
 use Prim.Native.Nat.{ℕ, suc, _+_}
 use native.Mathlib.Omega.{arith}
 use Rattle.one_state.specs.declared.OneState.{OneState}
-use Rattle.shift.specs.declared.readings.Reading.{Reading}
+use Rattle.wire.specs.declared.Reading.{Reading}
 use Rattle.yarn_shift.specs.declared.step.Step.{Step}
 use Rattle.yarn_shift.specs.Readings.{readingIn}
 use Rattle.yarn_shift.specs.Step.{advanced, watched}

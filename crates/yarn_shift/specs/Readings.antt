@@ -4,8 +4,8 @@ use mathlib.Core.List.{List, [], _∷_}
 use Prim.Native.Nat.{ℕ}
 use lib.ListN.{getD}
 use lib.Ieee.{Float, nan, inf, binary32, ofBits}
-use Rattle.shift.specs.declared.readings.Reading.{Reading}
-use Rattle.shift.specs.declared.readings.Reading.the-variants.{Arrived, Lost}
+use Rattle.wire.specs.declared.Reading.{Reading}
+use Rattle.wire.specs.declared.Reading.the-variants.{Arrived, Lost}
 
 -- the noise of the sensor
 abbrev four : Float

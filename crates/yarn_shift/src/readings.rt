@@ -1,7 +1,7 @@
 // The readings of the shift.
 ghost use mathlib.Core.Path.{_≡_};
 ghost use Rattle.yarn_shift.specs.Readings.{readingIn};
-use shift::Reading;
+use wire::Reading;
 
 // How many steps the shift has.
 pub const STEPS: usize = 10;

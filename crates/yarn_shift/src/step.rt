@@ -4,8 +4,8 @@ ghost use Rattle.yarn_shift.specs.Step.{atStart, advanced};
 use answers::Answer;
 use one_state::Corrected;
 use one_state::OneState;
-use shift::Outcome;
-use shift::Reading;
+use wire::Outcome;
+use wire::Reading;
 
 // A step: what became of the reading, and the yarn after it.
 pub struct Step {

@@ -4,7 +4,7 @@ use Prim.Native.Nat.{ℕ, _≤_}
 use native.Mathlib.Omega.{arith}
 use lib.ListN.{List·getD-eq-default}
 use lib.Ieee.{div, ofBits}
-use Rattle.shift.specs.declared.readings.Reading.the-variants.{Lost}
+use Rattle.wire.specs.declared.Reading.the-variants.{Lost}
 use Rattle.yarn_shift.specs.Readings.{readings}
 use Rattle.yarn_shift.proofs.readings.arriving.Statement.{statement}
 use Rattle.yarn_shift.proofs.readings.arriving.Tie as tie
