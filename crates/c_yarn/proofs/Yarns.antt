@@ -1,12 +1,14 @@
 -- The one-state filter behind a pointer, by what its correction finds. Assumes nothing.
 use mathlib.Core.Path.{_≡_, refl, sym, ap, _∙_}
-use mathlib.Core.Bool.{Bool, true, false, true≢false}
+use mathlib.Core.Bool.{false, true≢false}
 use Prim.Native.Nat.{ℕ}
+use lib.Dec.{eqb}
 use lib.Ieee.{Float}
 use Rattle.answers.specs.declared.Answer.{Answer}
 use Rattle.answers.specs.declared.Answer.the-variants.{Done}
 use Rattle.answers.specs.Answers.{isDone}
 use Rattle.c_codes.specs.Code.{codeOf}
+use Rattle.c_codes.proofs.Codes.{done-is-zero}
 use Rattle.one_state.specs.declared.OneState.{OneState}
 use Rattle.one_state.specs.declared.Corrected.{Corrected}
 use Rattle.one_state.specs.declared.Corrected.the-variants.{Accepted, Refused}
@@ -16,10 +18,15 @@ use Rattle.c_yarn.specs.Yarn.{CorrectedYarn, Tried}
 
 -- the two ways out of a correction by value; c is its code
 module _ (s : OneState) (z : Float) (c : ℕ) (t : OneState) where
-  pub accepted : corrected s z ≡ Accepted t → c ≡ codeOf Done → Tried s z true c t
-  accepted e k = record { coded = k ∙ sym (ap (λ (r : Corrected). codeOf (answerOf r)) e); handed = sym (ap handedBack e); counted = λ q. absurd (true≢false q) }
+  pub accepted : corrected s z ≡ Accepted t → c ≡ codeOf Done → Tried s z c t
+  accepted e k =
+      record {
+        coded = k ∙ sym (ap (λ (r : Corrected). codeOf (answerOf r)) e);
+        handed = sym (ap handedBack e);
+        counted = λ q. absurd (true≢false (sym (ap (λ (n : ℕ). eqb n 0) (k ∙ done-is-zero Done refl)) ∙ q));
+      }
 
-  pub refused : (v : Answer) → corrected s z ≡ Refused t v → c ≡ codeOf v → Tried s z false c t
+  pub refused : (v : Answer) → corrected s z ≡ Refused t v → c ≡ codeOf v → Tried s z c t
   refused v e k =
       record {
         coded = k ∙ sym (ap (λ (r : Corrected). codeOf (answerOf r)) e);

@@ -1,7 +1,8 @@
 -- The one-state filter behind a pointer: what a correction promises. Definitions only.
 use mathlib.Core.Path.{_≡_}
-use mathlib.Core.Bool.{Bool, false}
+use mathlib.Core.Bool.{false}
 use Prim.Native.Nat.{ℕ}
+use lib.Dec.{eqb}
 use lib.Ieee.{Float}
 use Rattle.answers.specs.declared.Answer.{Answer}
 use Rattle.c_codes.specs.Code.{codeOf}
@@ -13,8 +14,8 @@ pub record CorrectedYarn (s : OneState) (z : Float) (v : Answer) (s' : OneState)
   pub answer : v ≡ answerOf (corrected s z)
   pub after : s' ≡ handedBack (corrected s z)
 
--- the same by value, with what the one who writes the record goes by: where it was not accepted, the count is all that is new
-pub record Tried (s : OneState) (z : Float) (accepted : Bool) (code : ℕ) (s' : OneState) : Type 0 where
+-- the same by value, with what the one who writes the record goes by: where the code is not 0, the count is all that is new
+pub record Tried (s : OneState) (z : Float) (code : ℕ) (s' : OneState) : Type 0 where
   pub coded : code ≡ codeOf (answerOf (corrected s z))
   pub handed : s' ≡ handedBack (corrected s z)
-  pub counted : accepted ≡ false → withBlind s (s' .blind) ≡ s'
+  pub counted : eqb code 0 ≡ false → withBlind s (s' .blind) ≡ s'

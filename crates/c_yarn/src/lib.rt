@@ -23,7 +23,7 @@ pub extern "C" fn yurgamysh_one_state_correct(yarn: &mut OneState, z: f32) -> us
     ensures { λ code. ⌜ Told (λ v. CorrectedYarn (now (yarn .entry)) z v (now (yarn .exit))) code ⌝ }
 {
     let t = tried(*yarn, z);
-    if t.accepted {
+    if t.code == 0 {
         *yarn = t.after;
     } else {
         yarn.blind = t.after.blind;
@@ -31,25 +31,22 @@ pub extern "C" fn yurgamysh_one_state_correct(yarn: &mut OneState, z: f32) -> us
     t.code
 }
 
-// What became of a correction: whether it was accepted, its code, and the record after it.
+// What became of a correction: its code, and the record after it.
 struct Trial {
-    accepted: bool,
     code: usize,
     after: OneState,
 }
 
 // The correction of s by the reading z, by value.
 fn tried(s: OneState, z: f32) -> Trial
-    ensures { λ t. ⌜ Tried s z (t .accepted) (t .code) (t .after) ⌝ }
+    ensures { λ t. ⌜ Tried s z (t .code) (t .after) ⌝ }
 {
     match s.correct(z) {
         Corrected::Accepted(renewed) => Trial {
-            accepted: true,
             code: c_codes::code_of(Answer::Done),
             after: renewed,
         },
         Corrected::Refused(blinded, why) => Trial {
-            accepted: false,
             code: c_codes::code_of(why),
             after: blinded,
         },

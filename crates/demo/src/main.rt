@@ -9,5 +9,6 @@ fn main() {
     let t = work::run();
     table::foot(t);
     table::yarn_head();
-    work::watch();
+    let yarn = work::watch();
+    table::yarn_foot(yarn);
 }

@@ -1,7 +1,6 @@
 // What the program writes.
 ghost use mathlib.Core.Path.{_≡_};
 use answers::Answer;
-use feeder::Feeder;
 use figures::gap;
 use figures::number;
 use figures::plain;
@@ -13,12 +12,6 @@ use shift::Step;
 use shift::Tally;
 use wire::Outcome;
 use wire::Reading;
-
-// The standard deviation of the tension, the root of P(0, 0).
-fn spread(f: Feeder) {
-    let p = f.p;
-    number(data_type::square_root(p[0]));
-}
 
 // The tension that was read, or a dash.
 fn reading(g: Reading) {
@@ -73,6 +66,19 @@ fn remark(g: Reading) {
     }
 }
 
+// The columns that both tables have: the step, the reading, the estimate x of the tension and its
+// standard deviation, the root of p.
+fn columns(n: u64, g: Reading, x: f32, p: f32) {
+    right(n);
+    gap();
+    reading(g);
+    gap();
+    number(x);
+    gap();
+    number(data_type::square_root(p));
+    gap();
+}
+
 // The columns' names.
 pub fn head() {
     text(b"Yarn tension at a feeder, in cN\n\n");
@@ -83,14 +89,8 @@ pub fn head() {
 pub fn line(n: u64, g: Reading, s: Step) {
     let after = s.after;
     let o = s.outcome;
-    right(n);
-    gap();
-    reading(g);
-    gap();
-    number(feeder::tension(after));
-    gap();
-    spread(after);
-    gap();
+    let p = after.p;
+    columns(n, g, feeder::tension(after), p[0]);
     outcome(o);
     remark(g);
     text(b"\n");
@@ -137,18 +137,18 @@ fn alarm(yarn: OneState) {
 pub fn yarn_line(n: u64, g: Reading, s: yarn_shift::Step) {
     let after = s.after;
     let o = s.outcome;
-    right(n);
-    gap();
-    reading(g);
-    gap();
-    number(after.x);
-    gap();
-    number(data_type::square_root(after.p));
-    gap();
+    columns(n, g, after.x, after.p);
     right(after.blind as u64);
     gap();
     outcome(o);
     alarm(after);
     remark(g);
     text(b"\n");
+}
+
+// For how many readings the yarn has been blind at the end.
+pub fn yarn_foot(yarn: OneState) {
+    text(b"\nBlind for ");
+    whole(yarn.blind as u64);
+    text(b" readings at the end.\n");
 }

@@ -1,5 +1,5 @@
 -- The three cases of a correction, from those of the pivot step on S and from the test of the new x and p. Assumes nothing.
-use mathlib.Core.Path.{_≡_, refl, sym, ap, _∙_}
+use mathlib.Core.Path.{_≡_, refl, sym, ap, subst, _∙_}
 use mathlib.Core.Bool.{Bool, true, false, cond}
 use Prim.Native.Nat.{ℕ}
 use native.Mathlib.Omega.{arith}
@@ -93,14 +93,7 @@ module _ (s : OneState) (z : Float) where
   pub six-stay : isDone (answerOf (corrected s z)) ≡ false → SameSix s (handedBack (corrected s z))
   six-stay d =
       let e : handedBack (corrected s z) ≡ blinded s = handed-back ∙ rw d refl in
-      record {
-        same-x = ap (λ (t : OneState). t .x) e;
-        same-p = ap (λ (t : OneState). t .p) e;
-        same-a = ap (λ (t : OneState). t .a) e;
-        same-q = ap (λ (t : OneState). t .q) e;
-        same-h = ap (λ (t : OneState). t .h) e;
-        same-r = ap (λ (t : OneState). t .r) e;
-      }
+      subst (SameSix s) (sym e) (record { same-x = refl; same-p = refl; same-a = refl; same-q = refl; same-h = refl; same-r = refl })
 
   -- ---- as the code goes: d is what the pivot step carries
 

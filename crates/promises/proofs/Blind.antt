@@ -6,12 +6,11 @@ use mathlib.Core.List.{List, [], _∷_}
 use Prim.Native.Nat.{ℕ, suc, _+_, _≤_, _<_, min}
 use native.Mathlib.Nat.{min-eq-left}
 use native.Mathlib.Omega.{arith}
-use lib.Ieee.{Float}
 use lib.ListN.{length}
 use Rattle.answers.specs.declared.Answer.{Answer}
 use Rattle.answers.specs.Answers.{isDone}
 use Rattle.one_state.specs.declared.OneState.{OneState}
-use Rattle.one_state.specs.OneState.{predicted, oneMore, corrected, answerOf, handedBack}
+use Rattle.one_state.specs.OneState.{predicted, oneMore, corrected, answerOf}
 use Rattle.one_state.proofs.Cases.{handed-count}
 use Rattle.promises.specs.Blind.{Shift, start, predict, correct, between, inARow, allRefused, sees}
 

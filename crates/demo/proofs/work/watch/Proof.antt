@@ -1,6 +1,6 @@
 -- `work::watch` meets its contract. The loop's invariant: the yarn is what i steps make of it. The measure is how many steps are left. Assumes nothing.
 use mathlib.Core.Path.{_≡_}
-use Prim.Native.Nat.{ℕ, suc, _+_, _-_, _≤_}
+use Prim.Native.Nat.{_-_, _≤_}
 use native.Mathlib.Omega.{arith}
 use borrow.Author.Needs.{needs}
 use Rattle.yarn_shift.proofs.Watching.{one-step}
