@@ -31,15 +31,16 @@ run() { # NAME COMMAND..
 # ---- the lists of functions
 
 # 'yurgamysh_get S,S,S,C,S,S,S,M': the kinds of the result and the parameters, S a size, C and M floats
-# that are read and written, F a float, Y a yarn's record that is written, V nothing. A function that has
-# a body in the header is none of these.
+# that are read and written, F a float, Y yarns' records that are written, N the counts of a row that are
+# written, V nothing. A function that has a body in the header is none of these.
 header_signatures() {
     tr '\n' ' ' <include/yurgamysh.h |
         sed 's|/\*[^*]*\*\{1,\}\([^/*][^*]*\*\{1,\}\)*/||g' |
         grep -oE '(size_t|float|void) yurgamysh_[a-z_]+\([^)]*\);' |
         sed -E 's/^(size_t|float|void) (yurgamysh_[a-z_]+)\((.*)\);$/\2 \1 r, \3/
             s/const float \*[a-z_]+/C/g; s/float \*[a-z_]+/M/g; s/yurgamysh_one_state \*[a-z_]+/Y/g
-            s/size_t [a-z_]+/S/g; s/float [a-z_]+/F/g; s/void [a-z_]+/V/g; s/ +/ /g; s/, */,/g' | sort
+            s/yurgamysh_counts \*[a-z_]+/N/g; s/size_t [a-z_]+/S/g; s/float [a-z_]+/F/g; s/void [a-z_]+/V/g
+            s/ +/ /g; s/, */,/g' | sort
 }
 
 rust_signatures() {
@@ -47,7 +48,7 @@ rust_signatures() {
         grep -oE 'fn yurgamysh_[a-z_]+\([^)]*\)( -> [a-z0-9]+)?;' |
         sed -E 's/\);$/) -> void;/; s/^fn (yurgamysh_[a-z_]+)\((.*)\) -> (.*);$/\1 r: \3, \2/
             s/[a-z_]+: \*const f32/C/g; s/[a-z_]+: \*mut f32/M/g; s/[a-z_]+: \*mut OneState/Y/g
-            s/[a-z_]+: usize/S/g; s/[a-z_]+: f32/F/g; s/[a-z_]+: void/V/g
+            s/[a-z_]+: \*mut Counts/N/g; s/[a-z_]+: usize/S/g; s/[a-z_]+: f32/F/g; s/[a-z_]+: void/V/g
             s/ +/ /g; s/, */,/g; s/,$//' | sort
 }
 
@@ -62,6 +63,7 @@ compare_lists() {
     same_lists "the header and sys.rs have the same $(wc -l <"$out/names" | tr -d ' ') functions" "$out/header" "$out/rust"
     {
         sed -n 's/^    ROW(\([a-z_]*\), .*/yurgamysh_\1/p' checks/c/calls.c
+        grep -oE 'yurgamysh_feeders_[a-z]+' checks/c/feeders.c | sort -u
         echo yurgamysh_square_root
         echo yurgamysh_recip
     } | sort >"$out/tested"
@@ -86,6 +88,14 @@ header_alone() { # COMPILER WORDS..
         ok "the header alone, $*"
 }
 
+# What twelve_feeders says, in C and in Rust.
+twelve_feeders='round 1: 12 accepted
+round 2: 11 accepted, feeder 7 the first refused
+round 3: 10 accepted, feeder 2 the first refused
+round 4: 10 accepted, feeder 7 the first refused
+feeder 7: 36.41 cN, blind 3
+feeder 10: 35.90 cN, blind 1'
+
 test_language() { # COMPILER WORDS..
     if ! has "$1"; then
         skip "$*: no $1"
@@ -94,7 +104,7 @@ test_language() { # COMPILER WORDS..
     header_alone "$@"
     # shellcheck disable=SC2086
     run "compiling the test, $*" "$@" -O1 $warnings -ffp-contract=off checks/c/bindings.c checks/c/calls.c \
-        checks/c/examples.c checks/c/inputs.c checks/c/model.c checks/c/room.c \
+        checks/c/examples.c checks/c/feeders.c checks/c/inputs.c checks/c/model.c checks/c/room.c \
         -x none "$archive" -lm -o "$out/test" &&
         run "$*" "$out/test" && ok "$*: $(tail -n 1 "$out/said")"
     test_example one_yarn 'x is 4, P is 0.75' "$@"
@@ -103,6 +113,7 @@ test_language() { # COMPILER WORDS..
 36.06 cN, blind 2
 36.06 cN, blind 3: see to it
 36.03 cN, blind 0' "$@"
+    test_example twelve_feeders "$twelve_feeders" "$@"
 }
 
 # An example that README.md shows says this.
@@ -125,6 +136,12 @@ said_is() { # NAME TEXT
 
 # Each count of cargo's 'test result' lines.
 rust_count() { sed -n "s/^test result: .* \([0-9]*\) $1;.*/\1/p" "$out/cargo" | awk '{ n += $1 } END { print n + 0 }'; }
+
+# An example of the crate says this.
+test_rust_example() { # NAME TEXT
+    (cd bindings/rust && YURGAMYSH_LIB=$folder cargo run --offline -q --example "$1") >"$out/said" 2>&1
+    said_is "$1, Rust" "$2"
+}
 
 # A build that must fail and say so.
 refuses() { # NAME FOLDER TEXT
@@ -151,10 +168,10 @@ test_rust() {
     else
         ok "cargo test: $(rust_count passed) passed"
     fi
-    (cd bindings/rust && YURGAMYSH_LIB=$folder cargo run --offline -q --example one_yarn) >"$out/said" 2>&1
-    said_is 'the Rust example' 'x is 4, P is 0.75
+    test_rust_example one_yarn 'x is 4, P is 0.75
 Err(Pivot(0))
 x is 4, P is -3'
+    test_rust_example twelve_feeders "$twelve_feeders"
     mkdir -p "$out/empty" "$out/other"
     refuses 'a missing archive is told, with the command that makes it' "$out/empty" 'sh lib/build.sh'
     : >"$out/other/libyurgamysh.a"
@@ -203,6 +220,7 @@ elif [ -f "$archive" ]; then
     test_rust
     shown checks/c/one_yarn.c
     shown checks/c/blind_feeder.c
+    shown checks/c/twelve_feeders.c
     shown bindings/rust/examples/one_yarn.rs
 else
     bad "there is no $archive: sh lib/build.sh makes it"

@@ -3,15 +3,16 @@
    Matrices are row-major: entry (r, c) of a matrix with cols columns is at r*cols + c. A size (n
    states, m observations, rows, inner, cols) is 1 to YURGAMYSH_MAX_SIZE. Each buffer comes as a
    pointer and the count of floats behind it; it may be longer than its matrix, and what lies past
-   the matrix is never changed.
+   the matrix is never changed. A row of feeders comes as a pointer and the count of records behind
+   it, 0 to YURGAMYSH_MAX_FEEDERS.
 
    What the caller owes:
-   - each pointer has as many floats behind it as the length beside it says, aligned as a float is
-     (a length of 0 asks for nothing: the pointer may be NULL);
-   - a buffer that the call writes (its pointer is not const) shares no memory with another of the
-     same call; buffers that are only read may share;
-   - `value` of yurgamysh_get points to one float, and `yarn` to one record, always: NULL is not
-     allowed there;
+   - each pointer has as many floats behind it, and `feeders` as many records, as the length beside it
+     says, aligned as a float is (a length of 0 asks for nothing: the pointer may be NULL);
+   - what the call writes (its pointer is not const) shares no memory with anything else that is lent
+     to the same call; buffers that are only read may share;
+   - `value` of yurgamysh_get points to one float, `yarn` to one record, and `counts` to one
+     yurgamysh_counts, aligned as a size_t is, always: NULL is not allowed there;
    - the processor rounds to nearest and keeps subnormals, as it does when a program starts. Sums,
      products and quotients are its own instructions and follow its mode, so whoever set another one
      (MXCSR on x86-64, FPCR on Arm) puts it back before a call. Else other bits come; and with
@@ -20,8 +21,8 @@
 
    What the caller need not care about: any sizes, any lengths, any rows and columns, and any floats,
    infinities and NaN among them. Such a call answers or refuses. No call allocates, fails to return,
-   or keeps a pointer; two threads may call at the same time, each with its own written buffers and
-   records.
+   or keeps a pointer; two threads may call at the same time, each with its own written buffers,
+   records and counts.
 
    Stack that a call takes, its parameters included, as measured on x86-64: a prediction about 1.5 kB
    at every size, a correction 1.9 kB at n = m = 1 and 2.1 kB at n = m = 16. Half of it or more is room
@@ -45,15 +46,18 @@
 
    They are tested in this order. Sizes and buffers count from 0 in the order of the parameters. Which
    NaN a NaN is (its sign and payload) is not decided. Of the one-state record a refusal leaves all as
-   lent but the count of refusals: see its function.
+   lent but the count of refusals: see its function. Of a row of feeders size 0 is how many they are,
+   refused above 12 and not at 0; buffer 1, the readings, is refused where they are fewer than the
+   feeders. A pivot, or what is not finite, refuses one feeder there and not the call: the code is 0,
+   and `counts` tells how many were accepted.
 
-   Only corrections are tested for what is not finite: yurgamysh_correct, yurgamysh_update and
-   yurgamysh_one_state_correct. One that is done leaves the n numbers of x and the n*n of P finite;
-   what lies past them does not count. Predictions are not tested: one whose numbers overflow is done,
-   with infinities or NaN in x or P. After that every correction is refused, with YURGAMYSH_PIVOT or
-   YURGAMYSH_NOT_FINITE, since what is not finite stays not finite when something is added to it or
-   taken from it; nor does a later prediction mend it. So a filter that is spoilt can't look well
-   again: set x and P anew then. */
+   Only corrections are tested for what is not finite: yurgamysh_correct, yurgamysh_update,
+   yurgamysh_one_state_correct, and yurgamysh_feeders_correct feeder by feeder. One that is accepted
+   leaves the n numbers of x and the n*n of P finite; what lies past them does not count. Predictions
+   are not tested: one whose numbers overflow is done, with infinities or NaN in x or P. After that
+   every correction is refused, with YURGAMYSH_PIVOT or YURGAMYSH_NOT_FINITE, since what is not finite
+   stays not finite when something is added to it or taken from it; nor does a later prediction mend
+   it. So a filter that is spoilt can't look well again: set x and P anew then. */
 #ifndef YURGAMYSH_H
 #define YURGAMYSH_H
 
@@ -67,7 +71,9 @@ extern "C" {
 enum {
     /* The largest size, and the most cells of a matrix. */
     YURGAMYSH_MAX_SIZE = 16,
-    YURGAMYSH_MAX_CELLS = 256
+    YURGAMYSH_MAX_CELLS = 256,
+    /* The most feeders of a row. */
+    YURGAMYSH_MAX_FEEDERS = 12
 };
 
 /* What a call says. */
@@ -188,7 +194,8 @@ size_t yurgamysh_correct(size_t n, size_t m,
            bad reading, and for any reading where the record's own numbers are bad
 
    A record has 28 bytes, aligned as a float is: the floats at 0, 4, 8, 12, 16 and 20, blind at 24, and
-   three bytes of padding. Feeders may stand in an array: a call touches the one that it is given. */
+   three bytes of padding. Feeders may stand in an array: a call touches the one that it is given, and
+   those over a row, below, touch all of them. */
 typedef struct yurgamysh_one_state {
     float x;
     float p;
@@ -214,6 +221,33 @@ void yurgamysh_one_state_predict(yurgamysh_one_state *yarn);
    and YURGAMYSH_NOT_FINITE (900), where the new x or p is an infinity or a NaN (so is x wherever z is
    one), write blind alone: one up, and 255 stays 255. Every other byte of the record is as lent. */
 size_t yurgamysh_one_state_correct(yurgamysh_one_state *yarn, float z);
+
+/* ---- A row of feeders: up to YURGAMYSH_MAX_FEEDERS records that stand in an array, in one call.
+
+   Each record ends as the call of one record leaves it, these being made from the first to the last;
+   only its padding is not decided after a call that is done. Refusals YURGAMYSH_SIZE (100), where
+   there are more than twelve feeders, and then YURGAMYSH_SHORT (201), where the readings are fewer
+   than the feeders, leave every byte as lent. Size 0: feeders_len. Buffers: 0 feeders, 1 readings. */
+
+/* What became of a row's corrections: 16 bytes, aligned as a size_t is. */
+typedef struct yurgamysh_counts {
+    /* How many feeders were accepted. */
+    size_t accepted;
+    /* The index of the first that was refused, or the number of feeders where none was. */
+    size_t first_refused;
+} yurgamysh_counts;
+
+/* yurgamysh_one_state_predict of every feeder. What is not finite is not tested here either. */
+size_t yurgamysh_feeders_predict(yurgamysh_one_state *feeders, size_t feeders_len);
+
+/* yurgamysh_one_state_correct of every feeder, each by the reading of its own index. A feeder that is
+   refused keeps its six floats, and its blind goes one up, where 255 stays 255; those after it go on,
+   and the answer is 0 all the same. What became of them is in *counts, which is written only where the
+   answer is 0; which others were refused, blind tells: it is 0 exactly where the feeder was accepted.
+   With no feeders both counts are 0. Readings past the last feeder's are not read. */
+size_t yurgamysh_feeders_correct(yurgamysh_one_state *feeders, size_t feeders_len,
+                                 const float *readings, size_t readings_len,
+                                 yurgamysh_counts *counts);
 
 /* ---- Decomposition and inverse */
 

@@ -7,10 +7,10 @@ use crate::same;
 use crate::stack;
 use crate::timing::{in_turns, Plan, Times};
 use minikalman::held::Held;
-use minikalman::kalman::regular::RegularKalmanBuilder;
+use minikalman::kalman::regular::{RegularKalman, RegularKalmanBuilder};
 use minikalman::lent::Lent;
 use minikalman::matrix::{MatrixDataType, MatrixMut};
-use minikalman::observations::regular::RegularObservationBuilder;
+use minikalman::observations::regular::{RegularObservation, RegularObservationBuilder};
 use std::hint::black_box;
 
 pub fn decomposition<const N: usize, const NN: usize>(
@@ -90,39 +90,47 @@ pub fn root(plan: Plan, figures: &mut Vec<Figure>) -> Result<(), String> {
     Ok(())
 }
 
+type One = Held<1, 1, 1>;
+pub type OneFilter = RegularKalman<1, f32, One, One, One, One, One, One>;
+pub type OneSeen = RegularObservation<1, 1, f32, One, One, One, One, One, One, One, One, One, One>;
+
+/// The original's filter of one state and its observation, over arrays: those of this record and reading.
+#[inline(always)]
+pub fn original(yarn: &ours::OneState, z: f32) -> (OneFilter, OneSeen) {
+    let one = |v| Held([v]);
+    let zero = || Held([0.0]);
+    (
+        RegularKalmanBuilder::new(
+            one(yarn.a),
+            one(yarn.x),
+            one(yarn.p),
+            one(yarn.q),
+            zero(),
+            zero(),
+        ),
+        RegularObservationBuilder::new(
+            one(yarn.h),
+            one(z),
+            one(yarn.r),
+            zero(),
+            zero(),
+            zero(),
+            zero(),
+            zero(),
+            zero(),
+            zero(),
+        ),
+    )
+}
+
 /// The one-state filter against the original's filter of one state over arrays.
 pub fn one_state(plan: Plan, figures: &mut Vec<Figure>) -> Result<(), String> {
     let from = black_box(model::<1, 1, 1, 1, 1>());
-    let mut yarn = ours::OneState {
-        x: from.x[0],
-        p: from.p[0],
-        a: from.a[0],
-        q: from.q[0],
-        h: from.h[0],
-        r: from.r[0],
-        blind: 0,
-    };
-    let mut filter = RegularKalmanBuilder::new::<1, f32>(
-        Held::<1, 1, 1>(from.a),
-        Held::<1, 1, 1>(from.x),
-        Held::<1, 1, 1>(from.p),
-        Held::<1, 1, 1>(from.q),
-        Held::<1, 1, 1>([0.0]),
-        Held::<1, 1, 1>([0.0]),
-    );
-    let zero = || Held::<1, 1, 1>([0.0]);
-    let mut seen = RegularObservationBuilder::new::<1, 1, f32>(
-        Held::<1, 1, 1>(from.h),
-        Held::<1, 1, 1>(from.z[0]),
-        Held::<1, 1, 1>(from.r),
-        zero(),
-        zero(),
-        zero(),
-        zero(),
-        zero(),
-        zero(),
-        zero(),
-    );
+    let numbers = [
+        from.x[0], from.p[0], from.a[0], from.q[0], from.h[0], from.r[0],
+    ];
+    let mut yarn = ours::OneState::new(numbers, 0);
+    let (mut filter, mut seen) = original(&yarn, from.z[0][0]);
     for step in 0..1000 {
         let z = from.z[step % READINGS];
         seen.measurement_vector_mut().0 = z;

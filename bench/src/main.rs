@@ -1,14 +1,19 @@
 //! Ours and the original, side by side. See bench/README.md.
 
 mod alone;
+mod any_rows;
 mod filters;
 mod model;
 mod ours;
 mod report;
+mod rows;
 mod stack;
 mod timing;
 
 use std::time::Duration;
+
+/// How many rows of any numbers are compared before anything is timed.
+const ROWS: usize = 1_000_000;
 
 /// Whether two buffers hold the same bits.
 fn same(a: &[f32], b: &[f32]) -> bool {
@@ -47,9 +52,14 @@ fn run(data: Option<&str>) -> Result<bool, String> {
         repetitions: 31,
         batch: Duration::from_millis(1),
     };
+    let [accepted, refused] = any_rows::compare(ROWS)?;
     let figures = measure(plan)?;
+    let rows = rows::run(plan)?;
     report::table(&figures);
     println!();
+    report::rows(&rows);
+    println!();
+    println!("{ROWS} rows of any numbers, none differing: {accepted} corrections accepted, {refused} refused");
     let [predict, correct] = alone::refused(plan)?;
     println!(
         "a call that is refused for its last buffer: predict {:.1} ns, correct {:.1} ns",
@@ -64,9 +74,9 @@ fn run(data: Option<&str>) -> Result<bool, String> {
         println!("stack at {size}: predict {predict} bytes, correct {correct}, decomposition {decompose}");
     }
     if let Some(file) = data {
-        std::fs::write(file, report::lines(&figures)).map_err(|e| format!("{file}: {e}"))?;
+        std::fs::write(file, report::lines(&figures, &rows)).map_err(|e| format!("{file}: {e}"))?;
     }
-    Ok(report::bars(&figures))
+    Ok(report::bars(&figures, &rows))
 }
 
 fn main() {

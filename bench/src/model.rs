@@ -3,6 +3,9 @@
 
 pub const READINGS: usize = 64;
 
+/// The most records of a row.
+pub const FEEDERS: usize = 12;
+
 pub struct Model<const N: usize, const M: usize, const NN: usize, const MN: usize, const MM: usize>
 {
     pub x: [f32; N],
@@ -23,12 +26,25 @@ impl Numbers {
     }
 
     pub fn next(&mut self) -> f32 {
+        (self.bits() >> 40) as f32 / 8_388_608.0 - 1.0
+    }
+
+    /// Any 64 bits.
+    pub fn bits(&mut self) -> u64 {
         self.0 = self.0.wrapping_add(0x9e37_79b9_7f4a_7c15);
         let mut v = self.0;
         v = (v ^ (v >> 30)).wrapping_mul(0xbf58_476d_1ce4_e5b9);
         v = (v ^ (v >> 27)).wrapping_mul(0x94d0_49bb_1331_11eb);
-        v ^= v >> 31;
-        (v >> 40) as f32 / 8_388_608.0 - 1.0
+        v ^ (v >> 31)
+    }
+
+    /// From 0 to below n.
+    pub fn below(&mut self, n: usize) -> usize {
+        (((self.bits() >> 32) * n as u64) >> 32) as usize
+    }
+
+    pub fn pick<T: Copy>(&mut self, from: &[T]) -> T {
+        from[self.below(from.len())]
     }
 }
 
@@ -68,4 +84,21 @@ pub fn model<const N: usize, const M: usize, const NN: usize, const MN: usize, c
         r: covariance(M, 0.5, &mut from),
         z: std::array::from_fn(|_| std::array::from_fn(|_| 3.0 + from.next())),
     }
+}
+
+/// x, p, a, q, h and r of a feeder, as stable and ordinary as the model.
+pub fn feeder(from: &mut Numbers) -> [f32; 6] {
+    [
+        1.0 + from.next(),
+        covariance::<1>(1, 2.0, from)[0],
+        0.85 + 0.1 * from.next(),
+        covariance::<1>(1, 0.1, from)[0],
+        1.0 + 0.25 * from.next(),
+        covariance::<1>(1, 0.5, from)[0],
+    ]
+}
+
+/// What it reads.
+pub fn reading(from: &mut Numbers) -> f32 {
+    3.0 + from.next()
 }

@@ -50,8 +50,17 @@ extern "C" {
     fn yurgamysh_square_root(x: f32) -> f32;
     fn yurgamysh_one_state_predict(yarn: *mut OneState);
     fn yurgamysh_one_state_correct(yarn: *mut OneState, z: f32) -> usize;
+    fn yurgamysh_feeders_predict(feeders: *mut OneState, feeders_len: usize) -> usize;
+    fn yurgamysh_feeders_correct(
+        feeders: *mut OneState,
+        feeders_len: usize,
+        readings: *const f32,
+        readings_len: usize,
+        counts: *mut Counts,
+    ) -> usize;
 }
 
+#[derive(Clone, Copy)]
 #[repr(C)]
 pub struct OneState {
     pub x: f32,
@@ -61,6 +70,37 @@ pub struct OneState {
     pub h: f32,
     pub r: f32,
     pub blind: u8,
+}
+
+impl OneState {
+    pub fn new([x, p, a, q, h, r]: [f32; 6], blind: u8) -> OneState {
+        OneState {
+            x,
+            p,
+            a,
+            q,
+            h,
+            r,
+            blind,
+        }
+    }
+}
+
+/// How many of a row were accepted, and the index of the first refused, or how many they are.
+#[derive(Clone, Copy, PartialEq, Eq)]
+#[repr(C)]
+pub struct Counts {
+    pub accepted: usize,
+    pub first_refused: usize,
+}
+
+impl Counts {
+    pub fn of(accepted: usize, first_refused: usize) -> Counts {
+        Counts {
+            accepted,
+            first_refused,
+        }
+    }
 }
 
 pub struct Filter<const N: usize, const M: usize, const NN: usize, const MN: usize, const MM: usize>
@@ -199,4 +239,24 @@ pub fn one_state_predict(yarn: &mut OneState) {
 pub fn one_state_correct(yarn: &mut OneState, z: f32) -> usize {
     // SAFETY: one record.
     unsafe { yurgamysh_one_state_correct(yarn, z) }
+}
+
+#[inline(always)]
+pub fn feeders_predict(feeders: &mut [OneState]) -> usize {
+    // SAFETY: one slice with its length.
+    unsafe { yurgamysh_feeders_predict(feeders.as_mut_ptr(), feeders.len()) }
+}
+
+#[inline(always)]
+pub fn feeders_correct(feeders: &mut [OneState], z: &[f32], counts: &mut Counts) -> usize {
+    // SAFETY: two slices with their lengths, and one record of counts.
+    unsafe {
+        yurgamysh_feeders_correct(
+            feeders.as_mut_ptr(),
+            feeders.len(),
+            z.as_ptr(),
+            z.len(),
+            counts,
+        )
+    }
 }

@@ -1,5 +1,6 @@
 //! The figures, the table, and the bars that bench/README.md lists.
 
+use crate::model::FEEDERS;
 use crate::timing::Times;
 
 #[derive(Clone, Copy, PartialEq, Eq)]
@@ -69,6 +70,35 @@ impl Figure {
     }
 }
 
+/// Twelve feeders: one call for all of them, a call for each, the original for each.
+pub struct Row {
+    what: &'static str,
+    one: Times,
+    each: Times,
+    arrays: Times,
+}
+
+impl Row {
+    pub fn of(what: &'static str, [one, each, arrays]: [Times; 3]) -> Row {
+        Row {
+            what,
+            one,
+            each,
+            arrays,
+        }
+    }
+
+    /// How many times as fast one call is as a call for each.
+    fn ratio(&self) -> f64 {
+        self.each.by_first
+    }
+
+    /// Nanoseconds that one call spares each feeder, by that ratio.
+    fn gained(&self) -> f64 {
+        (self.ratio() - 1.0) * self.one.median / FEEDERS as f64
+    }
+}
+
 pub fn table(figures: &[Figure]) {
     println!("| | ours, ns | original, arrays, ns | original, slices, ns | arrays / ours | slices / ours | arrays / ours, least |");
     println!("|---|---|---|---|---|---|---|");
@@ -90,8 +120,26 @@ pub fn table(figures: &[Figure]) {
     }
 }
 
+pub fn rows(rows: &[Row]) {
+    println!("| twelve feeders | one call, ns | twelve calls, ns | original, arrays, ns | twelve calls / one | arrays / one | twelve calls / one, least | gained a feeder, ns |");
+    println!("|---|---|---|---|---|---|---|---|");
+    for r in rows {
+        println!(
+            "| {} | {:.1} | {:.1} | {:.1} | {:.2} | {:.2} | {:.2} | {:.2} |",
+            r.what,
+            r.one.median,
+            r.each.median,
+            r.arrays.median,
+            r.ratio(),
+            r.arrays.by_first,
+            r.each.least / r.one.least,
+            r.gained()
+        );
+    }
+}
+
 /// The figures as lines with tabs, a heading first; a figure that is not there is `?`.
-pub fn lines(figures: &[Figure]) -> String {
+pub fn lines(figures: &[Figure], rows: &[Row]) -> String {
     let mut text = String::from("what\tours\tarrays\tslices\tby_arrays\tby_slices\n");
     for f in figures {
         let (slices, by) = match f.slices {
@@ -105,6 +153,12 @@ pub fn lines(figures: &[Figure]) -> String {
             f.ratio()
         );
     }
+    for r in rows {
+        text += &format!(
+            "row {}\t{:.2}\t{:.2}\t?\t{:.3}\t?\n",
+            r.what, r.one.median, r.arrays.median, r.arrays.by_first
+        );
+    }
     text
 }
 
@@ -114,7 +168,7 @@ fn mean(ratios: impl Iterator<Item = f64>) -> f64 {
 }
 
 /// Prints the geometric mean and the bars; whether all are met.
-pub fn bars(figures: &[Figure]) -> bool {
+pub fn bars(figures: &[Figure], [_, correct, _]: &[Row; 3]) -> bool {
     let counted = || figures.iter().filter(|f| f.counts());
     let over_arrays = mean(counted().map(Figure::ratio));
     let over_slices = mean(counted().filter_map(|f| Some(f.slices?.by_first)));
@@ -150,5 +204,10 @@ pub fn bars(figures: &[Figure]) -> bool {
             times <= 2.0,
         );
     }
+    bar(
+        "a row's correct at least 1.0 times as fast as twelve calls, within 0.02",
+        correct.ratio(),
+        correct.ratio() >= 0.98,
+    );
     all
 }

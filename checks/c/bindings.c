@@ -1,6 +1,7 @@
 /* Calls every function of include/yurgamysh.h through the archive, good input and each refusal, and
    compares the answer and every number lent with the rules (model.c): those of the matrices, those
-   past them, and a marked stretch before each buffer. Compiled as C and as C++.
+   past them, and a marked stretch before each buffer. A row of feeders is compared so with the
+   calls of one record (feeders.c). Compiled as C and as C++.
 
    Prints the first differences and a line of counts; exits with 1 where anything differs, or where
    a function was not seen to give each of its answers. */
@@ -8,6 +9,7 @@
 
 #include "calls.h"
 #include "examples.h"
+#include "feeders.h"
 #include "inputs.h"
 #include "model.h"
 #include "room.h"
@@ -326,9 +328,10 @@ int main(void) {
     }
     told = 0;
     number_functions();
+    failures += run_feeders(&calls, &numbers);
     wrong = run_examples(&examples);
     failures += wrong;
     printf("%lu functions, %lu calls, %lu numbers compared, %lu examples: %lu failed\n",
-           (unsigned long)function_count + 2, calls, numbers, (unsigned long)examples, failures);
+           (unsigned long)function_count + 4, calls, numbers, (unsigned long)examples, failures);
     return failures != 0;
 }

@@ -1,10 +1,12 @@
-/* Every function of the header as a row of a table: its sizes and buffers, and how it is called. */
+/* The functions of the header as rows of a table: their sizes and buffers, and how they are called.
+   Those of one number and those over a row of feeders are not here: bindings.c and feeders.c. */
 #ifndef CALLS_H
 #define CALLS_H
 
 #include "../../include/yurgamysh.h"
 
-enum { MOST_SIZES = 3, MOST_BUFFERS = 12 };
+/* A record has six floats, and its count with the padding as a seventh. */
+enum { MOST_SIZES = 3, MOST_BUFFERS = 12, RECORD_FLOATS = 7 };
 
 struct lent {
     float *at;
@@ -22,7 +24,7 @@ struct function {
     const char *name;
     size_t sizes;
     /* Two letters a buffer, its rows and columns: 0 to 2 are the size of this index, a is 1, and ag
-       the record of a yarn: six floats, and its count with the padding as a seventh. */
+       the record of a yarn. */
     const char *shapes;
     /* A letter a buffer: w where the call may write it, r where it only reads it, k where an
        accepted call writes it and a refused one keeps it: x and P of a correction, and the record

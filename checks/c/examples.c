@@ -216,24 +216,34 @@ static void overflows(void) {
 #else
 #define HOLDS(name, test) typedef char name[(test) ? 1 : -1]
 #endif
-#define AT(member, offset)                                                                         \
-    HOLDS(member##_is_at_##offset, offsetof(yurgamysh_one_state, member) == offset)
+#define AT(type, member, offset)                                                                   \
+    HOLDS(member##_is_at_##offset, offsetof(yurgamysh_##type, member) == offset)
 
-struct after_a_byte {
+struct yarn_after_a_byte {
     char byte;
     yurgamysh_one_state yarn;
 };
 
-AT(x, 0);
-AT(p, 4);
-AT(a, 8);
-AT(q, 12);
-AT(h, 16);
-AT(r, 20);
-AT(blind, 24);
+struct counts_after_a_byte {
+    char byte;
+    yurgamysh_counts counts;
+};
+
+AT(one_state, x, 0);
+AT(one_state, p, 4);
+AT(one_state, a, 8);
+AT(one_state, q, 12);
+AT(one_state, h, 16);
+AT(one_state, r, 20);
+AT(one_state, blind, 24);
 HOLDS(blind_is_a_byte, sizeof(((yurgamysh_one_state *)0)->blind) == 1);
 HOLDS(a_record_has_28_bytes, sizeof(yurgamysh_one_state) == 28);
-HOLDS(a_record_is_aligned_to_4, offsetof(struct after_a_byte, yarn) == 4);
+HOLDS(a_record_is_aligned_to_4, offsetof(struct yarn_after_a_byte, yarn) == 4);
+AT(counts, accepted, 0);
+AT(counts, first_refused, 8);
+HOLDS(counts_have_16_bytes, sizeof(yurgamysh_counts) == 16);
+HOLDS(counts_are_aligned_to_8, offsetof(struct counts_after_a_byte, counts) == 8);
+HOLDS(a_row_has_up_to_12, YURGAMYSH_MAX_FEEDERS == 12);
 
 /* A record with this count, and bytes of its own in the padding. */
 static yurgamysh_one_state *lend_yarn(yurgamysh_one_state *yarn, const float *numbers,
@@ -404,6 +414,48 @@ static void blind_feeders(void) {
     expect_blind("300 readings with p below zero", below, 36, 400);
 }
 
+/* Five feeders: two are taken, two refused by their readings and one by its r; then all are
+   predicted. */
+static void a_row(void) {
+    const float lent[][6] = {{1, 3, 1, 0, 1, 1},
+                             {1, 3, 5, 7, 1, 1},
+                             {1, 3, 1, 0, 1, INFINITY},
+                             {3, 2, 5, 7, 1, 1},
+                             {1, 3, 1, 0, 1, 1}};
+    const float readings[] = {5, NAN, 5, INFINITY, 5, NAN};
+    const float corrected[] = {4, 0.75f, 1, 0, 1, 1}, second[] = {5, 82, 5, 7, 1, 1},
+                fourth[] = {15, 57, 5, 7, 1, 1};
+    const uint8_t before[] = {7, 0, 254, 255, 0}, after[] = {0, 1, 255, 255, 0};
+    yurgamysh_one_state feeders[5];
+    yurgamysh_counts counts = {77, 78};
+    size_t i, kept = 0;
+    for (i = 0; i < 5; i++)
+        lend_yarn(&feeders[i], lent[i], before[i]);
+    expect("a row with too few readings",
+           yurgamysh_feeders_correct(feeders, 5, readings, 4, &counts) == 201 &&
+               yurgamysh_answer_of(201) == YURGAMYSH_SHORT && yurgamysh_carried_by(201) == 1);
+    for (i = 0; i < 5; i++)
+        kept += has(&feeders[i], lent[i], before[i]);
+    expect("its records and counts",
+           kept == 5 && counts.accepted == 77 && counts.first_refused == 78);
+    expect("a row of five", yurgamysh_feeders_correct(feeders, 5, readings, 6, &counts) == 0);
+    expect("two are accepted, and the second is the first refused",
+           counts.accepted == 2 && counts.first_refused == 1);
+    for (kept = i = 0; i < 5; i++)
+        kept += has(&feeders[i], i % 4 == 0 ? corrected : lent[i], after[i]);
+    expect("its records", kept == 5);
+    expect("its prediction", yurgamysh_feeders_predict(feeders, 5) == 0);
+    expect("its records then",
+           has(&feeders[0], corrected, after[0]) && has(&feeders[1], second, after[1]) &&
+               has(&feeders[2], lent[2], after[2]) && has(&feeders[3], fourth, after[3]) &&
+               has(&feeders[4], corrected, after[4]));
+    expect("the first alone", yurgamysh_feeders_correct(feeders, 1, readings, 1, &counts) == 0 &&
+                                  counts.accepted == 1 && counts.first_refused == 1);
+    expect("no feeders", yurgamysh_feeders_correct(NULL, 0, NULL, 0, &counts) == 0 &&
+                             counts.accepted == 0 && counts.first_refused == 0 &&
+                             yurgamysh_feeders_predict(NULL, 0) == 0);
+}
+
 static void products(void) {
     const float a[] = {-1}, b[] = {0}, minus_zero[] = {-0.0f}, zero[] = {0};
     float c[1];
@@ -426,6 +478,7 @@ size_t run_examples(size_t *count) {
     payloads();
     feeders_in_a_row();
     blind_feeders();
+    a_row();
     products();
     *count = made;
     return wrong;

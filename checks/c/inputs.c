@@ -56,10 +56,6 @@ static void fill_large(char rows, char columns, size_t n, size_t cells, float *a
     } else if (rows == '1' && columns == '0') {
         for (i = 0; i < cells; i += n)
             at[i] = 0.0f;
-    } else if (columns == 'g') {
-        at[1] = ldexpf(1.0f, 126);
-        at[4] = 1.0f;
-        at[5] = ldexpf(1.0f, 102) - at[1];
     }
 }
 
@@ -72,15 +68,29 @@ static void fill_count(float *at) {
     memcpy(at, &count, sizeof count);
 }
 
+void fill_record(float *at, enum kind kind) {
+    size_t i;
+    for (i = 0; i < 6; i++)
+        at[i] = draw_number(kind < POSITIVE ? kind : WHOLE);
+    fill_count(&at[6]);
+    if (kind == P_OVERFLOWS) {
+        at[1] = ldexpf(1.0f, 126);
+        at[4] = 1.0f;
+        at[5] = ldexpf(1.0f, 102) - at[1];
+    }
+}
+
 void fill_cells(const struct function *f, const struct call *c, size_t k, enum kind kind) {
     size_t i, cells = cells_of(f, c, k);
     float *at = c->buffer[k].at;
     char rows = f->shapes[2 * k], columns = f->shapes[2 * k + 1];
     int sized = rows < 'a', last = rows == (char)('0' + f->sizes - 1);
+    if (takes_record(f)) {
+        fill_record(at, kind);
+        return;
+    }
     for (i = 0; i < cells; i++)
         at[i] = draw_number(kind < POSITIVE ? kind : WHOLE);
-    if (takes_record(f))
-        fill_count(&at[6]);
     if (kind < POSITIVE)
         return;
     if (sized && rows == columns)

@@ -25,6 +25,8 @@ enum kind {
 
 uint32_t draw(void);
 float draw_number(enum kind kind);
+/* Fills a record, its count with any bytes in the padding. */
+void fill_record(float *at, enum kind kind);
 /* Fills the cells of buffer k. */
 void fill_cells(const struct function *f, const struct call *c, size_t k, enum kind kind);
 

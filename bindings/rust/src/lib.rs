@@ -5,6 +5,7 @@
 mod cells;
 mod correction;
 mod factors;
+mod feeders;
 mod filter;
 mod numbers;
 mod one_state;
@@ -17,6 +18,7 @@ mod sys;
 pub use cells::*;
 pub use correction::{correct, innovation, update};
 pub use factors::{cholesky_decompose_lower, invert_l_cholesky};
+pub use feeders::{correct_feeders, predict_feeders, Corrections, Feeders};
 pub use filter::{Filter, Observation};
 pub use numbers::{recip, square_root};
 pub use one_state::OneState;
@@ -29,3 +31,6 @@ use refusal::answer;
 
 /// The largest size: states, observations, rows, columns.
 pub const MAX_SIZE: usize = 16;
+
+/// The most feeders of a row.
+pub const MAX_FEEDERS: usize = 12;

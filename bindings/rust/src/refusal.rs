@@ -5,9 +5,10 @@ use core::fmt;
 /// Why a call was refused. Sizes and buffers count from 0, in the order of the parameters.
 #[derive(Clone, Copy, Debug, PartialEq, Eq, Hash)]
 pub enum Refusal {
-    /// This size, the first such, is 0 or above 16. Everything is as lent.
+    /// This size, the first such, is 0 or above 16; or there are more than 12 feeders. Everything is as lent.
     Size(usize),
-    /// This buffer, the first such, is shorter than its matrix. Everything is as lent.
+    /// This buffer, the first such, is shorter than its matrix; or the readings are fewer than the feeders.
+    /// Everything is as lent.
     Short(usize),
     /// The row (0) or the column (1) is not below its size. Everything is as lent.
     Range(usize),
@@ -21,8 +22,11 @@ pub enum Refusal {
 impl fmt::Display for Refusal {
     fn fmt(&self, f: &mut fmt::Formatter<'_>) -> fmt::Result {
         match self {
-            Refusal::Size(k) => write!(f, "size {k} is 0 or above {}", crate::MAX_SIZE),
-            Refusal::Short(k) => write!(f, "buffer {k} is shorter than its matrix"),
+            Refusal::Size(k) => {
+                let (size, feeders) = (crate::MAX_SIZE, crate::MAX_FEEDERS);
+                write!(f, "size {k} is 0 or above {size}, or there are more than {feeders} feeders")
+            }
+            Refusal::Short(k) => write!(f, "buffer {k} is too short"),
             Refusal::Range(0) => write!(f, "the row is out of range"),
             Refusal::Range(_) => write!(f, "the column is out of range"),
             Refusal::Pivot(i) => write!(f, "pivot {i} is not above zero, or not finite"),

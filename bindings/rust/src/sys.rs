@@ -1,7 +1,21 @@
 //! The functions of `include/yurgamysh.h`, as C has them: each slice is a pointer and a length, and a
-//! yarn's record a pointer.
+//! yarn's record or the counts of a row a pointer.
 
 use crate::OneState;
+use core::mem::offset_of;
+
+/// `yurgamysh_counts` of the header: how many feeders were accepted, and the index of the first that was
+/// refused, or the number of feeders where none was.
+#[repr(C)]
+pub struct Counts {
+    pub accepted: usize,
+    pub first_refused: usize,
+}
+
+const _: () = {
+    assert!(size_of::<Counts>() == 16 && align_of::<Counts>() == 8);
+    assert!(offset_of!(Counts, accepted) == 0 && offset_of!(Counts, first_refused) == 8);
+};
 
 extern "C" {
     pub fn yurgamysh_predict(
@@ -107,6 +121,14 @@ extern "C" {
     ) -> usize;
     pub fn yurgamysh_one_state_predict(yarn: *mut OneState);
     pub fn yurgamysh_one_state_correct(yarn: *mut OneState, z: f32) -> usize;
+    pub fn yurgamysh_feeders_predict(feeders: *mut OneState, feeders_len: usize) -> usize;
+    pub fn yurgamysh_feeders_correct(
+        feeders: *mut OneState,
+        feeders_len: usize,
+        readings: *const f32,
+        readings_len: usize,
+        counts: *mut Counts,
+    ) -> usize;
     pub fn yurgamysh_cholesky_decompose_lower(n: usize, t: *mut f32, t_len: usize) -> usize;
     pub fn yurgamysh_invert_l_cholesky(
         n: usize,

@@ -410,8 +410,8 @@ fn a_blind_feeder() {
 #[test]
 fn refusals_in_words() {
     let words = [
-        (Refusal::Size(1), "size 1 is 0 or above 16"),
-        (Refusal::Short(3), "buffer 3 is shorter than its matrix"),
+        (Refusal::Size(1), "size 1 is 0 or above 16, or there are more than 12 feeders"),
+        (Refusal::Short(3), "buffer 3 is too short"),
         (Refusal::Range(0), "the row is out of range"),
         (Refusal::Range(1), "the column is out of range"),
         (Refusal::Pivot(2), "pivot 2 is not above zero, or not finite"),

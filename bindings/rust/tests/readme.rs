@@ -23,6 +23,13 @@ fn no_line_is_hidden() {
     assert_eq!(hidden(README), Vec::<&str>::new());
 }
 
+/// The example that it shows is the one that stands in examples/.
+#[test]
+fn the_example_is_shown_as_it_is() {
+    let example = include_str!("../examples/twelve_feeders.rs");
+    assert!(README.contains(&format!("\n```rust\n{example}```\n")));
+}
+
 #[test]
 fn a_hidden_line_would_be_found() {
     let text = "# Title\n```text\n# shown\n```\n```rust\n#[test]\n# let r = 1.0;\n  # Ok(())\n#\n```\n# Next\n```\n# a\n```\n";

@@ -10,8 +10,9 @@ use Rattle.factors.specs.Pivots.{pivotTaken}
 use Rattle.factors.specs.Decomposition.{lessDot, factor, lastRecip, firstNot}
 use Rattle.factors.specs.Inverse.{plusSum, solved, back}
 use Rattle.one_state.specs.OneState.{predicted, corrected}
+use Rattle.rows.specs.Rows.{each, howMany}
 use Rattle.promises.specs.Table.{table}
 
 pub checked : table ≡ true
-unfolding table predicted corrected every sqrtOf sumFrom run grid pivotTaken lessDot factor lastRecip firstNot plusSum solved back add sub mul div neg lt ofBits toBits
+unfolding table predicted corrected each howMany every sqrtOf sumFrom run grid pivotTaken lessDot factor lastRecip firstNot plusSum solved back add sub mul div neg lt ofBits toBits
 checked = refl

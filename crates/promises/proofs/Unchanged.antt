@@ -1,5 +1,5 @@
 -- Refusals 1 to 3 change nothing (R3, R25): a theorem for each public function that knows no other refusal. Their promises give each lent buffer by the call's answer,
--- and one law says what a refusal makes of that. Where refusal 4 can follow, the theorems are those of `factors` and `filters`. Assumes nothing.
+-- and one law says what a refusal makes of that. Of a row of feeders it is cited from `rows`. Where refusal 4 can follow, the theorems are those of `factors` and `filters`. Assumes nothing.
 use mathlib.Core.Path.{_≡_}
 use mathlib.Core.Bool.{false}
 use mathlib.Core.List.{List}
@@ -12,6 +12,10 @@ use Rattle.grids.specs.Sums.{Combined, InPlace}
 use Rattle.entries.specs.Products.{Multiplied, Buffered, MultipliedT, AddedT, ScaledT, RowMultiplied, RowAdded}
 use Rattle.factors.specs.Inverted.{Inverted}
 use Rattle.filters.specs.Predicted.{PredictedX, PredictedP, Predicted}
+use Rattle.one_state.specs.declared.OneState.{OneState}
+use Rattle.rows.specs.declared.Corrections.the-variants.{Refused}
+use Rattle.rows.specs.Rows.{PredictedRow, CorrectedRow}
+use Rattle.rows.proofs.Theorems.{refused-prediction-keeps, refused-row-keeps}
 
 -- the law: what goes by a refusal is as lent
 pub refused-leaves : {after : List Float} (v : Answer) (new old : List Float) → isDone v ≡ false → after ≡ settled v new old → after ≡ old
@@ -95,3 +99,11 @@ module _ (v : Answer) (no : isDone v ≡ false) where
   pub predict-unchanged : {f : Format} {n : ℕ} {x A P Q px temp x' P' px' temp' : List Float} → Predicted f n x A P Q px temp v x' P' px' temp'
       → (x' ≡ x) × (P' ≡ P) × (px' ≡ px) × (temp' ≡ temp)
   predict-unchanged p = (refused-leaves v _ _ no (p .x-after), refused-leaves v _ _ no (p .P-after), refused-leaves v _ _ no (p .predicted-x-after), refused-leaves v _ _ no (p .temp-P-after))
+
+  -- ---- rows of feeders
+  module _ {row row' : List OneState} where
+    pub predict-row-unchanged : PredictedRow row v row' → row' ≡ row
+    predict-row-unchanged p = refused-prediction-keeps p no
+
+    pub correct-row-unchanged : {zs : List Float} → CorrectedRow row zs (Refused v) row' → row' ≡ row
+    correct-row-unchanged p = refused-row-keeps p no

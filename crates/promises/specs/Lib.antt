@@ -6,4 +6,5 @@ pub mod Yarns
 pub mod Nights
 pub mod YarnNights
 pub mod Blind
+pub mod Feeders
 pub mod Table

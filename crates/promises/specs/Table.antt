@@ -3,8 +3,10 @@ use mathlib.Core.Bool.{Bool, true, false, _&&_}
 use mathlib.Core.List.{List, [], _∷_, map}
 use Prim.Native.Nat.{ℕ}
 use lib.Dec.{eqb}
+use lib.ListN.{length, replicate}
 use lib.Ieee.{Float, binary32, ofBits, toBits}
-use Rattle.answers.specs.Answers.{numberOf}
+use Rattle.answers.specs.declared.Answer.the-variants.{Size, Short}
+use Rattle.answers.specs.Answers.{numberOf, carriedBy, settled}
 use Rattle.numbers.specs.Root.{sqrtOf}
 use Rattle.grids.specs.Grid.{cell, run, grid}
 use Rattle.entries.specs.Entries.{product, rowProduct}
@@ -15,6 +17,9 @@ use Rattle.filters.specs.Correction.{innovationOf, residualOf, gainOf, newX, ne
 use Rattle.filters.specs.Corrected.{finiteAnswer}
 use Rattle.one_state.specs.declared.OneState.{OneState}
 use Rattle.one_state.specs.OneState.{spread, gain, correctedX, correctedP, fresh, withBlind, predicted, corrected, answerOf, handedBack}
+use Rattle.rows.specs.declared.Corrections.{Corrections}
+use Rattle.rows.specs.declared.Corrections.the-variants.{All, Part, Refused}
+use Rattle.rows.specs.Rows.{rowAnswer, readingsAnswer, predictedRow, correctedRow, correctionsOf}
 
 -- ---- how a line is read
 
@@ -83,10 +88,59 @@ yarn r before = let of = ofBits binary32 in withBlind (fresh (of 0x3f800000) (of
 unfoldable pub blinds : ℕ → ℕ → ℕ → ℕ → Bool
 blinds r before z after = eqb (handedBack (corrected (yarn r before) (ofBits binary32 z)) .blind) after
 
+-- what may differ between the records of a row: the patterns of x and p, and the count
+abbrev pub Row : Type 0
+Row = List (ℕ × ℕ × ℕ)
+
+-- the row of these, with a and q of these patterns and h = r = 1
+abbrev rowOf : ℕ → ℕ → Row → List OneState
+rowOf a q ts = let of = ofBits binary32 in map (λ (t : ℕ × ℕ × ℕ). withBlind (fresh (of (t .0)) (of (t .1)) (of a) (of q) (of 0x3f800000) (of 0x3f800000)) (t .2)) ts
+
+-- the records are those
+unfoldable pub stands : ℕ → ℕ → List OneState → Row → Bool
+unfolding has are
+stands a q [] [] = true
+stands a q [] (t ∷ ts) = false
+stands a q (s ∷ row) [] = false
+stands a q (s ∷ row) (t ∷ ts) =
+    are (s .x ∷ s .p ∷ s .a ∷ s .q ∷ s .h ∷ s .r ∷ []) (t .0 ∷ t .1 ∷ a ∷ q ∷ 0x3f800000 ∷ 0x3f800000 ∷ []) && eqb (s .blind) (t .2) && stands a q row ts
+
+-- what the correction of a row says, by numbers
+abbrev coded : Corrections → List ℕ
+coded (All n) = 0 ∷ n ∷ []
+coded (Part n i) = 1 ∷ n ∷ i ∷ []
+coded (Refused v) = 2 ∷ numberOf v ∷ carriedBy v
+
+-- the same numbers, and as many
+unfoldable pub equal : List ℕ → List ℕ → Bool
+equal [] [] = true
+equal [] (n ∷ ns) = false
+equal (m ∷ ms) [] = false
+equal (m ∷ ms) (n ∷ ns) = eqb m n && equal ms ns
+
+-- a row with a = 1 and q = 0, corrected by these readings: the call says c and leaves these
+unfoldable pub corrects : Row → List ℕ → Corrections → Row → Bool
+unfolding stands equal
+corrects before zs c after =
+    let row = rowOf 0x3f800000 0 before in
+    equal (coded (correctionsOf row (values zs))) (coded c)
+    && stands 0x3f800000 0 (settled (readingsAnswer (length row) (length zs)) (correctedRow row (values zs)) row) after
+
+-- one with this a and q, predicted: the call answers this number and leaves these
+unfoldable pub predicts : ℕ → ℕ → Row → ℕ → Row → Bool
+unfolding stands
+predicts a q before number after =
+    let row = rowOf a q before in
+    eqb (numberOf (rowAnswer (length row))) number && stands a q (settled (rowAnswer (length row)) (predictedRow row) row) after
+
+-- x = 1, p = 3, not refused yet
+abbrev feeder : ℕ × ℕ × ℕ
+feeder = (0x3f800000, 0x40400000, 0)
+
 -- ---- the table
 
 unfoldable pub table : Bool
-unfolding has are leaves inverts tests says blinds
+unfolding has are leaves inverts tests says blinds corrects predicts
 table =
     -- roots of 4 and 2
     has (sqrtOf binary32 (ofBits binary32 0x40800000)) 0x40000000
@@ -160,6 +214,20 @@ table =
     && blinds 0xc0a00000 254 0x40a00000 255
     && blinds 0xc0a00000 255 0x40a00000 255
     && eqb (predicted (yarn 0x3f800000 9) .blind) 9
+    -- rows of such records by 5: of none, of two, of thirteen, and of two by one reading
+    && corrects [] (0x40a00000 ∷ []) (All 0) []
+    && corrects (feeder ∷ feeder ∷ []) (0x40a00000 ∷ 0x40a00000 ∷ []) (All 2) ((0x40800000, 0x3f400000, 0) ∷ (0x40800000, 0x3f400000, 0) ∷ [])
+    && corrects (replicate 13 feeder) (replicate 13 0x40a00000) (Refused (Size 0)) (replicate 13 feeder)
+    && corrects (feeder ∷ feeder ∷ []) (0x40a00000 ∷ []) (Refused (Short 1)) (feeder ∷ feeder ∷ [])
+    -- of three by 5, NaN and 5, and by NaN, 5 and +∞: a refused one stays as it was among the others, its count one up, and the first is named
+    && corrects (feeder ∷ feeder ∷ feeder ∷ []) (0x40a00000 ∷ 0x7fc00000 ∷ 0x40a00000 ∷ []) (Part 2 1)
+    ((0x40800000, 0x3f400000, 0) ∷ (0x3f800000, 0x40400000, 1) ∷ (0x40800000, 0x3f400000, 0) ∷ [])
+    && corrects (feeder ∷ feeder ∷ feeder ∷ []) (0x7fc00000 ∷ 0x40a00000 ∷ 0x7f800000 ∷ []) (Part 1 0)
+    ((0x3f800000, 0x40400000, 1) ∷ (0x40800000, 0x3f400000, 0) ∷ (0x3f800000, 0x40400000, 1) ∷ [])
+    -- rows predicted with a = 2 and q = 1: of two, of twelve and of thirteen
+    && predicts 0x40000000 0x3f800000 (feeder ∷ (0x40000000, 0x3f800000, 3) ∷ []) 0 ((0x40000000, 0x41500000, 0) ∷ (0x40800000, 0x40a00000, 3) ∷ [])
+    && predicts 0x40000000 0x3f800000 (replicate 12 feeder) 0 (replicate 12 (0x40000000, 0x41500000, 0))
+    && predicts 0x40000000 0x3f800000 (replicate 13 feeder) 1 (replicate 13 feeder)
     -- −1 times +0, without and with a +0 in front
     && has (rowProduct binary32 1 (values (0xbf800000 ∷ [])) (values (0x00000000 ∷ [])) 0) 0x80000000
     && has (product binary32 1 1 (values (0xbf800000 ∷ [])) (values (0x00000000 ∷ [])) 0 0) 0x00000000
