@@ -26,8 +26,8 @@
 
    Stack that a call takes, its parameters included, as measured on x86-64: a prediction about 1.5 kB
    at every size, a correction 1.9 kB at n = m = 1 and 2.1 kB at n = m = 16. Half of it or more is room
-   for one matrix, at every size. A call of the one-state record takes 0.1 kB. On Arm a prediction
-   takes 1.4 kB, a correction 2.0 kB.
+   for one matrix, at every size. A call of the one-state record, or of a row of them, takes 0.1 kB. On
+   Arm a prediction takes 1.4 kB, a correction 2.0 kB.
 
    The answer is one number: 0 where the call did its work, else 100 times the refusal's number plus
    what it carries. yurgamysh_answer_of and yurgamysh_carried_by take it apart.
