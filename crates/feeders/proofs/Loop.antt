@@ -1,6 +1,6 @@
 -- A loop over a row of records, in place: the law that both calls cite. A turn at i takes the row in which the first i records are made anew by a step g to the row with the record at i put by what g makes of it; so the loop, of n turns,
 -- leaves the first n made anew. The invariant counts the turns that are left. Assumes `Given`.
-use mathlib.Core.Path.{_≡_, sym, _∙_, subst}
+use mathlib.Core.Path.{_≡_, sym, ap, _∙_, subst}
 use Prim.Native.Nat.{ℕ, zero, suc, _+_, _<_, _≤_}
 use native.Mathlib.Nat.{add-zero, add-suc, zero-add, suc-add, lt-of-le-of-lt, lt-of-lt-of-le, le-add-right, lt-suc-self}
 use mathlib.Core.List.{List, _∷_}
@@ -19,6 +19,10 @@ use Rattle.one_state.specs.declared.OneState.{OneState}
 use Rattle.one_state.proofs.OneState as R
 use Rattle.rows.specs.Rows.{feeder, each}
 use Rattle.rows.proofs.Each.{each-more}
+
+-- the index moved on
+pub one-more : (i : ℕ) → i + 1 ≡ suc i
+one-more i = add-suc i zero ∙ ap suc (add-zero i)
 
 -- n turns over the row ys, which lies at (b, o); Rest is what else there is once i turns are done, and Left what is to hold when the loop is left
 module _ {M : Type 1} (𝓤 : URA M) (H : Heap 𝓤) (A : Atoms 𝓤) (W : Given 𝓤 H A) (𝓣 : Tables 𝓤 H) (En : Env 𝓤 H) (turn : Body) (Left : Out → SProp 𝓤)

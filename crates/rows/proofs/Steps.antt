@@ -4,12 +4,9 @@ use mathlib.Core.Bool.{Bool, true, false, cond}
 use mathlib.Core.List.{List}
 use Prim.Native.Nat.{ℕ, _≤_}
 use native.Mathlib.Omega.{arith}
-use lib.Dec.{ltb, leb}
-use borrow.Author.Tests.{ltb-false}
 use lib.Ieee.{Float}
 use Rattle.answers.specs.declared.Answer.{Answer}
-use Rattle.answers.specs.declared.Answer.the-variants.{Done, Size, Short}
-use Rattle.answers.specs.Answers.{isDone, firstOf, settled}
+use Rattle.answers.specs.Answers.{isDone, settled}
 use Rattle.factors.specs.Decomposition.{firstNot}
 use Rattle.one_state.specs.declared.OneState.{OneState}
 use Rattle.one_state.specs.declared.Corrected.{Corrected}
@@ -18,6 +15,7 @@ use Rattle.one_state.specs.OneState.{withXP, withBlind, renewed, blinded, corre
 use Rattle.one_state.proofs.Cases.{comes-back, handed-back}
 use Rattle.rows.specs.declared.Tally.{Tally}
 use Rattle.rows.specs.Rows.{reading, readingsAnswer, howMany, toldOf, tallied, Turned}
+use Rattle.rows.proofs.Refusals.{readings-only-done}
 
 -- how many records a call works on: they are not more than there are ..
 pub at-most : (v : Answer) (n k : ℕ) → k ≡ settled v n 0 → k ≤ n
@@ -29,12 +27,11 @@ at-most v n k e = subst (λ (m : ℕ). m ≤ n) (sym e) (go (isDone v))
 
 -- .. and not more than the readings
 pub enough : (n m k : ℕ) → k ≡ settled (readingsAnswer n m) n 0 → k ≤ m
-enough n m k e = subst (λ (j : ℕ). j ≤ m) (sym e) (go (leb n 12) (ltb m n) refl)
+enough n m k e = subst (λ (j : ℕ). j ≤ m) (sym e) (go (isDone (readingsAnswer n m)) refl)
   where
-    go : (s t : Bool) → ltb m n ≡ t → settled (firstOf (cond s Done (Size 0)) (cond t (Short 1) Done)) n 0 ≤ m
-    go true false h = ltb-false m n h
-    go true true h = omega arith
-    go false t h = omega arith
+    go : (t : Bool) → isDone (readingsAnswer n m) ≡ t → cond t n 0 ≤ m
+    go true h = readings-only-done n m h .1
+    go false h = omega arith
 
 -- what a correction hands back has the other four numbers of s
 rest-stays : (s : OneState) (z : Float) (u : OneState) → handedBack (corrected s z) ≡ u → withBlind (withXP s (u .x) (u .p)) (u .blind) ≡ u

@@ -98,13 +98,12 @@ fn tallied(accepted: bool, i: usize, t: Tally) -> Tally
     requires { ⌜ (i + 1 < 2 ^ 64) × (t .accepted ≤ i) ⌝ }
     ensures { λ r. ⌜ r ≡ tallied accepted i t ⌝ }
 {
-    if accepted {
-        Tally {
-            accepted: t.accepted + 1,
-            first: if t.first == i { i + 1 } else { t.first },
-        }
-    } else {
-        t
+    if !accepted {
+        return t;
+    }
+    Tally {
+        accepted: t.accepted + 1,
+        first: if t.first == i { i + 1 } else { t.first },
     }
 }
 

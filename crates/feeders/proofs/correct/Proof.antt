@@ -125,9 +125,6 @@ floats = spelt (sliceTy (tyRef (named 1) imm (pointee (f32 .written))))
 abbrev stayed : Stays (f.ended .signature .params) (f.ended .kept)
 stayed = (stay-slice (0 ∷ []) tt (plain (λ _. R.the-row)), (stay-none-slice (1 ∷ []) tt (plain (λ _. f32)) yes, tt))
 
-one-more : (i : ℕ) → i + 1 ≡ suc i
-one-more i = omega arith
-
 -- a record and a tally, and what lies in their cells
 abbrev vals : OneState → List Val
 vals = LL.vals R.the-type R′.the-laws
@@ -360,7 +357,7 @@ module _ {M : Type 1} (𝓤 : URA M) (H : Heap 𝓤) (A : Atoms 𝓤) (W : Given
           rewrite ! 5 (λ (u : Tally). ‵ (fat fullShare tally l₄ 0 (LL.val U.the-type U′.the-laws u))) (turned .tally-after ∙ one-tally) refl $
           assigns-last ! (bin ! (load ! (from ! (stop !)) (look ! 3 refl)) (lit ! tt) (record { fits = next-fits })) (from ! (stop !)) (store ! 3 refl (tt, record { fits = next-fits })) $
           forget ! 8 refl $ forget ! 9 refl $ forget ! 10 refl $ forget ! 11 refl $ forget ! 12 refl $ forget ! 13 refl $ forget ! 14 refl $ forget ! 15 refl $
-          rewrite ! 3 (λ (j : ℕ). ‵ (fat fullShare word l₅ 0 (vint w64 j))) (one-more i) refl $ by ! goes-on)))))
+          rewrite ! 3 (λ (j : ℕ). ‵ (fat fullShare word l₅ 0 (vint w64 j))) (Loop.one-more i) refl $ by ! goes-on)))))
         where
           e : OneState
           e = feeder (each g i ys) i

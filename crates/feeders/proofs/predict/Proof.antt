@@ -3,7 +3,7 @@
 use mathlib.Core.Path.{_≡_, refl, sym, ap, subst, _∙_}
 use mathlib.Core.Bool.{Bool}
 use mathlib.Core.List.{List, [], _∷_}
-use Prim.Native.Nat.{ℕ, suc, _+_, _*_, _<_, _≤_, _^_}
+use Prim.Native.Nat.{ℕ, _+_, _*_, _<_, _≤_, _^_}
 use native.Mathlib.Omega.{arith}
 use lib.ListN.{length, set}
 use lib.Dec.{lit<}
@@ -104,9 +104,6 @@ stayed = (stay-slice (0 ∷ []) tt (plain (λ _. R.the-row)), tt)
 -- the step on a record
 abbrev g : ℕ → OneState → OneState
 g i s = predicted s
-
-one-more : (i : ℕ) → i + 1 ≡ suc i
-one-more i = omega arith
 
 -- ---- the contracts of the functions by value
 module _ {M : Type 1} (𝓤 : URA M) (H : Heap 𝓤) (A : Atoms 𝓤) (at-mem : Memory → SProp 𝓤) (run : Routine → Fun 𝓤) where
@@ -243,7 +240,7 @@ module _ {M : Type 1} (𝓤 : URA M) (H : Heap 𝓤) (A : Atoms 𝓤) (W : Given
           rewrite ! 0 (λ (s : OneState). ‵ (row R.the-row fullShare (set (each g i ys) i s) b o)) eq refl $
           assigns-last ! (bin ! (load ! (from ! (stop !)) (look ! 1 refl)) (lit ! tt) (record { fits = next-fits })) (from ! (stop !)) (store ! 1 refl (tt, record { fits = next-fits })) $
           forget ! 4 refl $ forget ! 5 refl $ forget ! 6 refl $ forget ! 7 refl $ forget ! 8 refl $ forget ! 9 refl $ forget ! 10 refl $
-          rewrite ! 1 (λ (j : ℕ). ‵ (fat fullShare word l₃ 0 (vint w64 j))) (one-more i) refl $ by ! goes-on)))))
+          rewrite ! 1 (λ (j : ℕ). ‵ (fat fullShare word l₃ 0 (vint w64 j))) (Loop.one-more i) refl $ by ! goes-on)))))
         where
           e : OneState
           e = feeder (each g i ys) i
