@@ -5,7 +5,7 @@ use Prim.Native.Nat.{_≤_}
 use native.Mathlib.Omega.{arith}
 use borrow.Author.Tests.{ne-eqb}
 use Rattle.answers.specs.declared.Answer.{Answer}
-use Rattle.answers.specs.declared.Answer.the-variants.{Done, Size, Short, Range, Pivot, NotFinite}
+use Rattle.answers.specs.declared.Answer.the-variants.{Done, Size, Short, Range, Pivot, Line, Edition, NotFinite}
 use Rattle.answers.specs.Answers.{numberOf, isDone, settled}
 
 -- an answer whose number is 0 is Done
@@ -15,6 +15,8 @@ is-done (Size k) e = absurd (true≢false (sym e))
 is-done (Short k) e = absurd (true≢false (sym e))
 is-done (Range k) e = absurd (true≢false (sym e))
 is-done (Pivot k) e = absurd (true≢false (sym e))
+is-done (Line k) e = absurd (true≢false (sym e))
+is-done Edition e = absurd (true≢false (sym e))
 is-done NotFinite e = absurd (true≢false (sym e))
 
 -- a number that is not 0 is no "done"

@@ -5,7 +5,7 @@ use mathlib.Core.List.{List, [], _∷_}
 use Prim.Native.Nat.{ℕ}
 use lib.Dec.{eqb}
 use Rattle.answers.specs.declared.Answer.{Answer}
-use Rattle.answers.specs.declared.Answer.the-variants.{Done, Size, Short, Range, Pivot, NotFinite}
+use Rattle.answers.specs.declared.Answer.the-variants.{Done, Size, Short, Range, Pivot, Line, Edition, NotFinite}
 
 -- the number of the refusal, and 0 for a call that is done
 abbrev pub numberOf : Answer → ℕ
@@ -14,15 +14,19 @@ numberOf (Size k) = 1
 numberOf (Short k) = 2
 numberOf (Range k) = 3
 numberOf (Pivot k) = 4
+numberOf (Line k) = 5
+numberOf Edition = 6
 numberOf NotFinite = 9
 
--- what the answer carries: which size, which buffer, which of row (0) and column (1), the pivot's index; 9 is the number alone
+-- what the answer carries: which size, which buffer, which of row (0) and column (1), the pivot's index, the number of a card's line; 6 and 9 are the number alone
 abbrev pub carriedBy : Answer → List ℕ
 carriedBy Done = []
 carriedBy (Size k) = k ∷ []
 carriedBy (Short k) = k ∷ []
 carriedBy (Range k) = k ∷ []
 carriedBy (Pivot k) = k ∷ []
+carriedBy (Line k) = k ∷ []
+carriedBy Edition = []
 carriedBy NotFinite = []
 
 -- the call did its work: its number is 0

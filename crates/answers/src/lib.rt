@@ -21,6 +21,10 @@ pub enum Answer {
     Range(usize),
     // Refusal 4: the pivot of this index is not above zero, or not finite, NaN included.
     Pivot(usize),
+    // Refusal 5: of a card, the line of this number is missing, misplaced, malformed or surplus.
+    Line(usize),
+    // Refusal 6: a card's edition is a number other than 1.
+    Edition,
     // Refusal 9: some entry of the new x or P is not finite.
     NotFinite,
 }
@@ -35,11 +39,13 @@ pub fn number_of(v: Answer) -> usize
         Answer::Short(_) => 2,
         Answer::Range(_) => 3,
         Answer::Pivot(_) => 4,
+        Answer::Line(_) => 5,
+        Answer::Edition => 6,
         Answer::NotFinite => 9,
     }
 }
 
-// Which size, buffer, row or column, or pivot it is; 0 where the answer carries nothing.
+// Which size, buffer, row or column, pivot, or line it is; 0 where the answer carries nothing.
 pub fn carried_by(v: Answer) -> usize
     ensures { λ r. ⌜ r ≡ getD (carriedBy v) 0 0 ⌝ }
 {
@@ -49,6 +55,8 @@ pub fn carried_by(v: Answer) -> usize
         Answer::Short(k) => k,
         Answer::Range(k) => k,
         Answer::Pivot(k) => k,
+        Answer::Line(k) => k,
+        Answer::Edition => 0,
         Answer::NotFinite => 0,
     }
 }

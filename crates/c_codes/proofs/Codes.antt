@@ -4,7 +4,7 @@ use mathlib.Core.Bool.{true}
 use Prim.Native.Nat.{ℕ, zero, suc, _/_, _%_, _≤_}
 use native.Mathlib.Omega.{arith}
 use Rattle.answers.specs.declared.Answer.{Answer}
-use Rattle.answers.specs.declared.Answer.the-variants.{Done, Size, Short, Range, Pivot, NotFinite}
+use Rattle.answers.specs.declared.Answer.the-variants.{Done, Size, Short, Range, Pivot, Line, Edition, NotFinite}
 use Rattle.answers.specs.Answers.{numberOf, isDone}
 use Rattle.answers.proofs.Kept.{is-done}
 use Rattle.c_codes.specs.Code.{carried, codeOf, Told}
@@ -16,6 +16,8 @@ at-most-9 (Size k) = omega arith
 at-most-9 (Short k) = omega arith
 at-most-9 (Range k) = omega arith
 at-most-9 (Pivot k) = omega arith
+at-most-9 (Line k) = omega arith
+at-most-9 Edition = omega arith
 at-most-9 NotFinite = omega arith
 
 -- an answer is its number and what it carries
@@ -25,7 +27,9 @@ ofParts (suc zero) k = Size k
 ofParts (suc (suc zero)) k = Short k
 ofParts (suc (suc (suc zero))) k = Range k
 ofParts (suc (suc (suc (suc zero)))) k = Pivot k
-ofParts (suc (suc (suc (suc (suc n))))) k = NotFinite
+ofParts (suc (suc (suc (suc (suc zero))))) k = Line k
+ofParts (suc (suc (suc (suc (suc (suc zero)))))) k = Edition
+ofParts (suc (suc (suc (suc (suc (suc (suc n))))))) k = NotFinite
 
 parts : (v : Answer) → v ≡ ofParts (numberOf v) (carried v)
 parts Done = refl
@@ -33,6 +37,8 @@ parts (Size k) = refl
 parts (Short k) = refl
 parts (Range k) = refl
 parts (Pivot k) = refl
+parts (Line k) = refl
+parts Edition = refl
 parts NotFinite = refl
 
 same-parts : (v w : Answer) → numberOf v ≡ numberOf w → carried v ≡ carried w → v ≡ w

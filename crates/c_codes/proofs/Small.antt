@@ -28,7 +28,7 @@ either : (t : Bool) (v w : Answer) → carried v ≤ 99 → carried w ≤ 99 →
 either true v w hv hw = hv
 either false v w hv hw = hw
 
-after : (v : Answer) (ws : List Answer) → carried v ≤ 99 → Small ws → carried (afterTests v ws) ≤ 99
+pub after : (v : Answer) (ws : List Answer) → carried v ≤ 99 → Small ws → carried (afterTests v ws) ≤ 99
 after v [] h s = h
 after v (w ∷ ws) h s = after (firstOf v w) ws (either (isDone v) w v (s .0) h) (s .1)
 
@@ -40,7 +40,7 @@ sizes : (k : ℕ) (ns : List ℕ) → k + length ns ≤ 99 → Small (sizeTests 
 sizes k [] h = tt
 sizes k (n ∷ ns) h = (either (sizeTaken n) Done (Size k) (omega arith) (omega arith), sizes (suc k) ns (omega arith))
 
-buffers : (k : ℕ) (bs : List Lent) → k + length bs ≤ 99 → Small (bufferTests k bs)
+pub buffers : (k : ℕ) (bs : List Lent) → k + length bs ≤ 99 → Small (bufferTests k bs)
 buffers k [] h = tt
 buffers k (b ∷ bs) h = (either (ltb (b .len) (b .cells)) (Short k) Done (omega arith) (omega arith), buffers (suc k) bs (omega arith))
 

@@ -35,7 +35,7 @@ unfolding digitOf
 digit-high b l = sym (simp (le-leb 48 b (omega arith), lt-leb b 57 (omega arith), le-leb 97 b (omega arith), lt-leb b 102 l))
 
 -- no byte is worth more than 16
-small : (b : ℕ) → digitOf b ≤ 16
+pub small : (b : ℕ) → digitOf b ≤ 16
 unfolding digitOf
 small b = at (leb 48 b) (leb b 57) (leb 97 b) (leb b 102) (leb-true b 57) (leb-true b 102)
   where

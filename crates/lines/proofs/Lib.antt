@@ -1,5 +1,5 @@
 -- Laws that belong to no one function.
-mod Digits
+pub mod Digits
 pub mod Unique
 pub mod Examples
 mod Nan

@@ -11,8 +11,13 @@ use Rattle.factors.specs.Decomposition.{lessDot, factor, lastRecip, firstNot}
 use Rattle.factors.specs.Inverse.{plusSum, solved, back}
 use Rattle.one_state.specs.OneState.{predicted, corrected}
 use Rattle.rows.specs.Rows.{each, howMany}
+use Rattle.lines.specs.Hex.{digitOf}
+use Rattle.card_text.specs.Lines.{ends, firstLine, behindLine, behindLines}
+use Rattle.card_text.specs.Values.{begins, isCount, numberIn, areDigits, speltFrom, isEntry, areEntries, entriesIn}
+use Rattle.card_text.specs.Card.{countLine, countOf, entriesLine, entriesOf, cardAnswer, readAnswer}
+use Rattle.promises.specs.Cards as cards
 use Rattle.promises.specs.Table.{table}
 
 pub checked : table ≡ true
-unfolding table predicted corrected each howMany every sqrtOf sumFrom run grid pivotTaken lessDot factor lastRecip firstNot plusSum solved back add sub mul div neg lt ofBits toBits
+unfolding table predicted corrected each howMany every sqrtOf sumFrom run grid pivotTaken lessDot factor lastRecip firstNot plusSum solved back add sub mul div neg lt ofBits toBits digitOf ends firstLine behindLine behindLines begins isCount numberIn areDigits speltFrom isEntry areEntries entriesIn countLine countOf entriesLine entriesOf cardAnswer readAnswer cards.returns cards.cut
 checked = refl

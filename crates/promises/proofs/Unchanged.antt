@@ -1,6 +1,6 @@
 -- Refusals 1 to 3 change nothing (R3, R25): a theorem for each public function that knows no other refusal. Their promises give each lent buffer by the call's answer,
--- and one law says what a refusal makes of that. Of a row of feeders it is cited from `rows`. Where refusal 4 can follow, the theorems are those of `factors` and `filters`. Assumes nothing.
-use mathlib.Core.Path.{_≡_}
+-- and one law says what a refusal makes of that. Of a row of feeders it is cited from `rows`, of a card from `cards`, whose refusals 5 and 6 are among them. Where refusal 4 can follow, the theorems are those of `factors` and `filters`. Assumes nothing.
+use mathlib.Core.Path.{_≡_, refl}
 use mathlib.Core.Bool.{false}
 use mathlib.Core.List.{List}
 use Prim.Native.Nat.{ℕ}
@@ -16,6 +16,9 @@ use Rattle.one_state.specs.declared.OneState.{OneState}
 use Rattle.rows.specs.declared.Corrections.the-variants.{Refused}
 use Rattle.rows.specs.Rows.{PredictedRow, CorrectedRow}
 use Rattle.rows.proofs.Theorems.{refused-prediction-keeps, refused-row-keeps}
+use Rattle.cards.specs.declared.Card.the-variants as card
+use Rattle.cards.specs.Read.{CardRead}
+use Rattle.cards.proofs.Theorems.{refused-keeps}
 
 -- the law: what goes by a refusal is as lent
 pub refused-leaves : {after : List Float} (v : Answer) (new old : List Float) → isDone v ≡ false → after ≡ settled v new old → after ≡ old
@@ -107,3 +110,8 @@ module _ (v : Answer) (no : isDone v ≡ false) where
 
     pub correct-row-unchanged : {zs : List Float} → CorrectedRow row zs (Refused v) row' → row' ≡ row
     correct-row-unchanged p = refused-row-keeps p no
+
+  -- ---- settings cards
+  pub read-card-unchanged : {f : Format} {d : ℕ} {s : List ℕ} {a q h r a' q' h' r' : List Float} → CardRead f d s a q h r (card.Refused v) a' q' h' r'
+      → (a' ≡ a) × (q' ≡ q) × (h' ≡ h) × (r' ≡ r)
+  read-card-unchanged p = refused-keeps p v refl

@@ -1,6 +1,6 @@
 -- The checked examples (R26), of the definitions themselves: one table, bits in hexadecimal. `proofs/Table.antt` computes it. Definitions only.
 use mathlib.Core.Bool.{Bool, true, false, _&&_}
-use mathlib.Core.List.{List, [], _∷_, map}
+use mathlib.Core.List.{List, [], _∷_, _++_, map}
 use Prim.Native.Nat.{ℕ}
 use lib.Dec.{eqb}
 use lib.ListN.{length, replicate}
@@ -20,6 +20,8 @@ use Rattle.one_state.specs.OneState.{spread, gain, correctedX, correctedP, fres
 use Rattle.rows.specs.declared.Corrections.{Corrections}
 use Rattle.rows.specs.declared.Corrections.the-variants.{All, Part, Refused}
 use Rattle.rows.specs.Rows.{rowAnswer, readingsAnswer, predictedRow, correctedRow, correctionsOf}
+use Rattle.promises.specs.Cards as cards
+use Rattle.promises.specs.Cards.{equal, judged, judgedWith}
 
 -- ---- how a line is read
 
@@ -111,13 +113,6 @@ coded (All n) = 0 ∷ n ∷ []
 coded (Part n i) = 1 ∷ n ∷ i ∷ []
 coded (Refused v) = 2 ∷ numberOf v ∷ carriedBy v
 
--- the same numbers, and as many
-unfoldable pub equal : List ℕ → List ℕ → Bool
-equal [] [] = true
-equal [] (n ∷ ns) = false
-equal (m ∷ ms) [] = false
-equal (m ∷ ms) (n ∷ ns) = eqb m n && equal ms ns
-
 -- a row with a = 1 and q = 0, corrected by these readings: the call says c and leaves these
 unfoldable pub corrects : Row → List ℕ → Corrections → Row → Bool
 unfolding stands equal
@@ -140,7 +135,7 @@ feeder = (0x3f800000, 0x40400000, 0)
 -- ---- the table
 
 unfoldable pub table : Bool
-unfolding has are leaves inverts tests says blinds corrects predicts
+unfolding has are leaves inverts tests says blinds corrects predicts judged judgedWith cards.says
 table =
     -- roots of 4 and 2
     has (sqrtOf binary32 (ofBits binary32 0x40800000)) 0x40000000
@@ -234,3 +229,38 @@ table =
     -- 16777215 + 1, exact; 16777216 + 1, past the limit of R23
     && has (predictedX binary32 2 A (values (0x4b7fffff ∷ 0x3f800000 ∷ [])) 0) 0x4b800000
     && has (predictedX binary32 2 A (values (0x4b800000 ∷ 0x3f800000 ∷ [])) 0) 0x4b800000
+    -- the whole card of one state: taken, and what it holds
+    && judged cards.card 0 []
+    && cards.says cards.card 1 1 (0x3f800000 ∷ []) (0x3c800000 ∷ []) (0x3f800000 ∷ []) (0x3f800000 ∷ [])
+    -- the same with carriage returns, without its last newline, and with a byte behind it
+    && judged (cards.returns cards.card) 5 (1 ∷ [])
+    && judged (cards.cut cards.card) 5 (7 ∷ [])
+    && judged (cards.card ++ (10 ∷ [])) 5 (8 ∷ [])
+    -- no text at all
+    && judged [] 5 (1 ∷ [])
+    -- `edition=0`, `2`, `99`, and with nothing below it; `01` and `100`; `edition=2` with no newline
+    && judged (cards.with1 cards.edition0) 6 []
+    && judged (cards.with1 cards.edition99) 6 []
+    && judged cards.edition2 6 []
+    && judged (cards.with1 cards.edition01) 5 (1 ∷ [])
+    && judged (cards.with1 cards.edition100) 5 (1 ∷ [])
+    && judged (cards.cut cards.edition2) 5 (1 ∷ [])
+    -- `states=0` and `17`; `00` and `123`
+    && judged (cards.with2 cards.states0) 1 (0 ∷ [])
+    && judged (cards.with2 cards.states17) 1 (0 ∷ [])
+    && judged (cards.with2 cards.states00) 5 (2 ∷ [])
+    && judged (cards.with2 cards.states123) 5 (2 ∷ [])
+    -- `states=2` with the matrices of one state
+    && judged (cards.with2 cards.states2) 5 (4 ∷ [])
+    -- a capital digit, and one comma too many
+    && judged (cards.with4 cards.aCapital) 5 (4 ∷ [])
+    && judged (cards.with4 cards.aComma) 5 (4 ∷ [])
+    -- lines 2 and 3 swapped, and lines 5 and 6
+    && judged (cards.text (cards.edition1 ∷ cards.observations1 ∷ cards.states1 ∷ cards.a1 ∷ cards.q1 ∷ cards.h1 ∷ cards.r1 ∷ [])) 5 (2 ∷ [])
+    && judged (cards.text (cards.edition1 ∷ cards.states1 ∷ cards.observations1 ∷ cards.a1 ∷ cards.h1 ∷ cards.q1 ∷ cards.r1 ∷ [])) 5 (5 ∷ [])
+    -- `states=17` above a broken line 5, and below a broken line 1
+    && judged (cards.text (cards.edition1 ∷ cards.states17 ∷ cards.observations1 ∷ cards.a1 ∷ cards.h1 ∷ [])) 1 (0 ∷ [])
+    && judged (cards.text (cards.edition01 ∷ cards.states17 ∷ [])) 5 (1 ∷ [])
+    -- buffers of 1, 1, 0 and 0 numbers; the same for a card with a byte behind it
+    && judgedWith cards.card 1 1 0 0 2 (2 ∷ [])
+    && judgedWith (cards.card ++ (0 ∷ [])) 0 0 0 0 5 (8 ∷ [])

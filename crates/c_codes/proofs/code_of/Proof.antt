@@ -1,4 +1,4 @@
--- `code_of` meets its contract: no number of a refusal is above 4, so nothing wraps. Assumes nothing.
+-- `code_of` meets its contract: no number of a refusal is above 9, so nothing wraps. Assumes nothing.
 use native.Mathlib.Omega.{arith}
 use borrow.Author.Needs.{needs}
 use Rattle.c_codes.specs.Code.{codeOf}

@@ -1,0 +1,1 @@
+// A settings card as a text: definitions and laws, in specs/ and proofs/. No functions.

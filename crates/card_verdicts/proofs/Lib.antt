@@ -1,0 +1,2 @@
+-- Laws of a card judged line by line.
+pub mod Judging

@@ -1,0 +1,2 @@
+-- The definitions that the contracts cite: what judging a card finds.
+pub mod Verdicts
