@@ -1,6 +1,6 @@
 # The few commands that a person types. `compare` and `bench` want the place of the original's files in
 # MINIKALMAN_SRC.
-.PHONY: help kit demo prove test costs compare bench lib bindings
+.PHONY: help kit demo prove test costs compare cards bench lib bindings
 .DEFAULT_GOAL := help
 
 help: ## these lines
@@ -25,6 +25,9 @@ costs: ## what each crate and each edit cost in the last gate
 
 compare: kit ## the Rust's own answers, bit for bit, at scale (MINIKALMAN_SRC, rustc)
 	@bash oracle/compare.sh
+
+cards: kit ## settings cards by chance, read by the archive and by a second reader (rustc)
+	@sh checks/cards.sh
 
 bench: kit ## ours and the Rust, side by side, in nanoseconds (MINIKALMAN_SRC, rustc)
 	@bash bench/run.sh

@@ -44,7 +44,15 @@ pub fn one_more(n: u64) -> u64
 }
 
 // One number more: the list has `want`, `found` was found, and they are the same or not.
-fn met(o: Seen, next: usize, buffer: usize, index: usize, want: u32, found: u32, same: bool) -> Seen
+pub fn met(
+    o: Seen,
+    next: usize,
+    buffer: usize,
+    index: usize,
+    want: u32,
+    found: u32,
+    same: bool,
+) -> Seen
     ensures { λ r. ⌜ r ≡ metOf same o next buffer index want found ⌝ }
 {
     let mut more = o;
