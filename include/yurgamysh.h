@@ -4,30 +4,32 @@
    states, m observations, rows, inner, cols) is 1 to YURGAMYSH_MAX_SIZE. Each buffer comes as a
    pointer and the count of floats behind it; it may be longer than its matrix, and what lies past
    the matrix is never changed. A row of feeders comes as a pointer and the count of records behind
-   it, 0 to YURGAMYSH_MAX_FEEDERS.
+   it, 0 to YURGAMYSH_MAX_FEEDERS, and a card as a pointer and the count of bytes behind it.
 
    What the caller owes:
-   - each pointer has as many floats behind it, and `feeders` as many records, as the length beside it
-     says, aligned as a float is (a length of 0 asks for nothing: the pointer may be NULL);
+   - each pointer has as many floats behind it, `feeders` as many records, and `card` as many bytes, as
+     the length beside it says, floats and records aligned as a float is (a length of 0 asks for
+     nothing: the pointer may be NULL);
    - what the call writes (its pointer is not const) shares no memory with anything else that is lent
      to the same call; buffers that are only read may share;
-   - `value` of yurgamysh_get points to one float, `yarn` to one record, and `counts` to one
-     yurgamysh_counts, aligned as a size_t is, always: NULL is not allowed there;
+   - `value` of yurgamysh_get points to one float, `yarn` to one record, `counts` to one
+     yurgamysh_counts, and `states` and `observations` to one size_t each, aligned as a size_t is,
+     always: NULL is not allowed there;
    - the processor rounds to nearest and keeps subnormals, as it does when a program starts. Sums,
      products and quotients are its own instructions and follow its mode, so whoever set another one
      (MXCSR on x86-64, FPCR on Arm) puts it back before a call. Else other bits come; and with
      subnormals flushed to zero a subnormal pivot is refused that would have been taken. (A program
      that gcc links with -ffast-math starts with them flushed.)
 
-   What the caller need not care about: any sizes, any lengths, any rows and columns, and any floats,
-   infinities and NaN among them. Such a call answers or refuses. No call allocates, fails to return,
-   or keeps a pointer; two threads may call at the same time, each with its own written buffers,
-   records and counts.
+   What the caller need not care about: any sizes, any lengths, any rows and columns, any floats,
+   infinities and NaN among them, and any bytes of a card. Such a call answers or refuses. No call
+   allocates, fails to return, or keeps a pointer; two threads may call at the same time, each with its
+   own written buffers, records and counts.
 
    Stack that a call takes, its parameters included, as measured on x86-64: a prediction about 1.5 kB
    at every size, a correction 1.9 kB at n = m = 1 and 2.1 kB at n = m = 16. Half of it or more is room
-   for one matrix, at every size. A call of the one-state record, or of a row of them, takes 0.1 kB. On
-   Arm a prediction takes 1.4 kB, a correction 2.0 kB.
+   for one matrix, at every size. A call of the one-state record, or of a row of them, takes 0.1 kB, and
+   the reading of a card 0.3 kB. On Arm a prediction takes 1.4 kB, a correction 2.0 kB.
 
    The answer is one number: 0 where the call did its work, else 100 times the refusal's number plus
    what it carries. yurgamysh_answer_of and yurgamysh_carried_by take it apart.
@@ -41,6 +43,9 @@
                                      below its size, the row first
      400 + i   YURGAMYSH_PIVOT       pivot i is not above zero, or not finite, NaN   see the function
                                      included, the first such
+     500 + k   YURGAMYSH_LINE        line k of a card, counted from 1, is missing,   all as lent
+                                     misplaced, malformed or surplus, the first such
+     600       YURGAMYSH_EDITION     a card says another edition than 1              all as lent
      900       YURGAMYSH_NOT_FINITE  some entry of the new x or P is not finite, an  x and P as lent,
                                      infinity or a NaN                               the rest as done
 
@@ -49,7 +54,8 @@
    lent but the count of refusals: see its function. Of a row of feeders size 0 is how many they are,
    refused above 12 and not at 0; buffer 1, the readings, is refused where they are fewer than the
    feeders. A pivot, or what is not finite, refuses one feeder there and not the call: the code is 0,
-   and `counts` tells how many were accepted.
+   and `counts` tells how many were accepted. A card is judged from its first line to its last, each of
+   its sizes at the line that says it, and then come the buffers: see its function.
 
    Only corrections are tested for what is not finite: yurgamysh_correct, yurgamysh_update,
    yurgamysh_one_state_correct, and yurgamysh_feeders_correct feeder by feeder. One that is accepted
@@ -83,6 +89,8 @@ enum yurgamysh_answer {
     YURGAMYSH_SHORT = 2,
     YURGAMYSH_RANGE = 3,
     YURGAMYSH_PIVOT = 4,
+    YURGAMYSH_LINE = 5,
+    YURGAMYSH_EDITION = 6,
     YURGAMYSH_NOT_FINITE = 9
 };
 
@@ -94,12 +102,14 @@ static inline enum yurgamysh_answer yurgamysh_answer_of(size_t code) {
     case 2: return YURGAMYSH_SHORT;
     case 3: return YURGAMYSH_RANGE;
     case 4: return YURGAMYSH_PIVOT;
+    case 5: return YURGAMYSH_LINE;
+    case 6: return YURGAMYSH_EDITION;
     default: return YURGAMYSH_NOT_FINITE;
     }
 }
 
-/* Which size, which buffer, the row (0) or the column (1), or which pivot it is; 0 for done and for
-   not finite. */
+/* Which size, which buffer, the row (0) or the column (1), which pivot, or which line it is; 0 for
+   done, for the edition and for not finite. */
 static inline size_t yurgamysh_carried_by(size_t code) { return code % 100; }
 
 /* ---- The filter: n states, m observations.
@@ -248,6 +258,45 @@ size_t yurgamysh_feeders_predict(yurgamysh_one_state *feeders, size_t feeders_le
 size_t yurgamysh_feeders_correct(yurgamysh_one_state *feeders, size_t feeders_len,
                                  const float *readings, size_t readings_len,
                                  yurgamysh_counts *counts);
+
+/* ---- Settings cards: a model as a text, both sizes and the matrices A, Q, H and R of the filter.
+
+   A card has seven lines, each ended by a newline (byte 10), and no byte behind the last newline. A
+   line is its key and its value, with nothing before, between or behind:
+
+     line   key             value             such as
+     1      edition=        a count           edition=1
+     2      states=         a count, n        states=2
+     3      observations=   a count, m        observations=1
+     4      a=              n*n entries       a=3f800000,3f800000,00000000,3f800000
+     5      q=              n*n entries       q=3f800000,00000000,00000000,3f800000
+     6      h=              m*n entries       h=3f800000,00000000
+     7      r=              m*m entries       r=41000000
+
+   A count is one decimal digit, or two of which the first is not 0. An entry is the pattern of one
+   float in exactly eight hexadecimal digits, 0 to 9 and a to f, the highest first: 3f800000 is 1.
+   Entries stand row after row, with one comma between two of them. */
+
+/* The card's matrices in the fronts of a, q, h and r, n in *states and m in *observations. The pattern
+   of a NaN comes as a NaN, every other as its float: infinities and NaN are taken here. x and P are no
+   part of a card. Any refusal leaves every buffer, *states and *observations as lent.
+
+   The card is judged from the top, and the first thing that is wrong decides, whatever stands below:
+   - YURGAMYSH_LINE (501 to 507): this line is not as the table says. It is missing, is another line,
+     is spelt otherwise, has another number of entries, or lacks its newline. An empty card is 501;
+   - YURGAMYSH_EDITION (600): line 1 is as the table says, and its count is not 1;
+   - YURGAMYSH_SIZE (100, 101): line 2, or line 3, is as the table says, and its count is not 1 to 16;
+   - YURGAMYSH_LINE (508): something stands behind line 7;
+   - YURGAMYSH_SHORT (200 to 203): the whole card is right, and this buffer is too short for it.
+
+   Bytes past card_len are not read. Sizes: 0 states, 1 observations, as the card says them. Buffers:
+   0 a, 1 q, 2 h, 3 r. */
+size_t yurgamysh_card_read(const uint8_t *card, size_t card_len,
+                           float *a, size_t a_len,
+                           float *q, size_t q_len,
+                           float *h, size_t h_len,
+                           float *r, size_t r_len,
+                           size_t *states, size_t *observations);
 
 /* ---- Decomposition and inverse */
 

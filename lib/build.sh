@@ -25,7 +25,7 @@
 # x86-64 the test in C, linked there with all of them and run under the kit's emulator.
 set -eu
 
-families='c_cells c_products c_roots c_prediction c_correction c_yarn c_feeders'
+families='c_cells c_products c_roots c_prediction c_correction c_yarn c_feeders c_cards'
 
 fail() {
     echo "build: $1" >&2

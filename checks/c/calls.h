@@ -1,5 +1,6 @@
 /* The functions of the header as rows of a table: their sizes and buffers, and how they are called.
-   Those of one number and those over a row of feeders are not here: bindings.c and feeders.c. */
+   Those of one number, those over a row of feeders and the reader of cards are not here:
+   bindings.c, feeders.c and cards.c. */
 #ifndef CALLS_H
 #define CALLS_H
 

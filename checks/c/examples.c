@@ -456,6 +456,71 @@ static void a_row(void) {
                              yurgamysh_feeders_predict(NULL, 0) == 0);
 }
 
+/* A card of two states and one observation, no two of whose entries are alike. */
+#define SIZES "edition=1\nstates=2\nobservations=1\n"
+#define LINE_A "a=3f800000,40000000,c0400000,7fc00000\n"
+#define LINE_Q "q=3f000000,80000000,00000001,7f800000\n"
+#define LINE_H "h=40800000,40a00000\n"
+#define LINE_R "r=c0c00000\n"
+
+/* What a card is read into, with a float past each matrix. */
+struct read_into {
+    float a[5], q[5], h[3], r[2];
+    size_t states, observations;
+};
+static const struct read_into nothing_read = {
+    {77, 77, 77, 77, 77}, {77, 77, 77, 77, 77}, {77, 77, 77}, {77, 77}, 78, 79};
+
+static int same_read(const struct read_into *found, const struct read_into *want) {
+    return same(5, found->a, want->a) && same(5, found->q, want->q) && same(3, found->h, want->h) &&
+           same(2, found->r, want->r) && found->states == want->states &&
+           found->observations == want->observations;
+}
+
+static size_t read_card(const char *card, struct read_into *to) {
+    return yurgamysh_card_read((const uint8_t *)card, strlen(card), to->a, 5, to->q, 5, to->h, 3,
+                               to->r, 2, &to->states, &to->observations);
+}
+
+/* The card is refused with this code, by which it is told, and nothing is written. */
+static void expect_refused(const char *card, size_t code, enum yurgamysh_answer answer,
+                           size_t carried) {
+    struct read_into to = nothing_read;
+    expect(card, read_card(card, &to) == code && yurgamysh_answer_of(code) == answer &&
+                     yurgamysh_carried_by(code) == carried && same_read(&to, &nothing_read));
+}
+
+static void cards(void) {
+    const struct read_into want = {{1, 2, -3, NAN, 77},
+                                   {0.5f, -0.0f, ldexpf(1.0f, -149), INFINITY, 77},
+                                   {4, 5, 77},
+                                   {-6, 77},
+                                   2,
+                                   1};
+    struct read_into to = nothing_read;
+    expect("a card is taken", read_card(SIZES LINE_A LINE_Q LINE_H LINE_R, &to) == 0);
+    expect("its sizes and matrices", same_read(&to, &want));
+    expect_refused("", 501, YURGAMYSH_LINE, 1);
+    expect_refused("edition=1\r\nstates=2\r\n", 501, YURGAMYSH_LINE, 1);
+    expect_refused("edition=2", 501, YURGAMYSH_LINE, 1);
+    expect_refused("edition=2\n", 600, YURGAMYSH_EDITION, 0);
+    expect_refused("edition=1\nobservations=1\nstates=2\n", 502, YURGAMYSH_LINE, 2);
+    expect_refused("edition=1\nstates=02\n", 502, YURGAMYSH_LINE, 2);
+    expect_refused("edition=1\nstates=0\n", 100, YURGAMYSH_SIZE, 0);
+    expect_refused("edition=1\nstates=17\n", 100, YURGAMYSH_SIZE, 0);
+    expect_refused("edition=1\nstates=2\nobservation=1\n", 503, YURGAMYSH_LINE, 3);
+    expect_refused("edition=1\nstates=2\nobservations=0\n", 101, YURGAMYSH_SIZE, 1);
+    expect_refused(SIZES "a=3F800000,40000000,C0400000,7FC00000\n", 504, YURGAMYSH_LINE, 4);
+    expect_refused(SIZES LINE_A LINE_H LINE_Q LINE_R, 505, YURGAMYSH_LINE, 5);
+    expect_refused(SIZES LINE_A LINE_Q "h=40800000\n" LINE_R, 506, YURGAMYSH_LINE, 6);
+    expect_refused(SIZES LINE_A LINE_Q LINE_H "r=c0c00000", 507, YURGAMYSH_LINE, 7);
+    expect_refused(SIZES LINE_A LINE_Q LINE_H LINE_R "\n", 508, YURGAMYSH_LINE, 8);
+    /* an R of two observations wants four floats, and two are there */
+    expect_refused("edition=1\nstates=1\nobservations=2\na=3f800000\nq=3f800000\n"
+                   "h=3f800000,3f800000\nr=3f800000,3f800000,3f800000,3f800000\n",
+                   203, YURGAMYSH_SHORT, 3);
+}
+
 static void products(void) {
     const float a[] = {-1}, b[] = {0}, minus_zero[] = {-0.0f}, zero[] = {0};
     float c[1];
@@ -479,6 +544,7 @@ size_t run_examples(size_t *count) {
     feeders_in_a_row();
     blind_feeders();
     a_row();
+    cards();
     products();
     *count = made;
     return wrong;

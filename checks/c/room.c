@@ -8,23 +8,26 @@
 #include <unistd.h>
 
 static char *all;
-static size_t page;
+/* The bytes of a room, in whole pages, and of the page behind it. */
+static size_t room, page;
 
 int room_make(size_t count) {
     size_t k;
     void *got;
     page = (size_t)sysconf(_SC_PAGESIZE);
-    got = mmap(NULL, 2 * page * count, PROT_READ | PROT_WRITE, MAP_PRIVATE | MAP_ANONYMOUS, -1, 0);
+    room = (ROOM_BYTES + page - 1) / page * page;
+    got = mmap(NULL, (room + page) * count, PROT_READ | PROT_WRITE, MAP_PRIVATE | MAP_ANONYMOUS, -1,
+               0);
     if (got == MAP_FAILED)
         return 0;
     all = (char *)got;
     for (k = 0; k < count; k++)
-        if (mprotect(all + (2 * k + 1) * page, page, PROT_NONE) != 0)
+        if (mprotect(all + (room + page) * k + room, page, PROT_NONE) != 0)
             return 0;
     return 1;
 }
 
-float *room_end(size_t k) { return (float *)(void *)(all + (2 * k + 1) * page); }
+float *room_end(size_t k) { return (float *)(void *)(all + (room + page) * k + room); }
 
 void room_mark(size_t k) {
     size_t i;

@@ -10,6 +10,9 @@
    marked stretch before it. */
 enum { ROOM_FLOATS = 256 + 8 + 32 };
 
+/* Bytes that a room has: the longest card and more. */
+enum { ROOM_BYTES = 16384 };
+
 /* Makes count rooms; 0 where the machine has none. */
 int room_make(size_t count);
 

@@ -2,6 +2,7 @@
 #![no_std]
 #![deny(missing_docs)]
 
+mod cards;
 mod cells;
 mod correction;
 mod factors;
@@ -15,6 +16,7 @@ mod refusal;
 mod sums;
 mod sys;
 
+pub use cards::{from_card, read_card, CardError, Sizes};
 pub use cells::*;
 pub use correction::{correct, innovation, update};
 pub use factors::{cholesky_decompose_lower, invert_l_cholesky};

@@ -1,5 +1,5 @@
 //! The functions of `include/yurgamysh.h`, as C has them: each slice is a pointer and a length, and a
-//! yarn's record or the counts of a row a pointer.
+//! yarn's record, the counts of a row or a size that is written a pointer.
 
 use crate::OneState;
 use core::mem::offset_of;
@@ -128,6 +128,20 @@ extern "C" {
         readings: *const f32,
         readings_len: usize,
         counts: *mut Counts,
+    ) -> usize;
+    pub fn yurgamysh_card_read(
+        card: *const u8,
+        card_len: usize,
+        a: *mut f32,
+        a_len: usize,
+        q: *mut f32,
+        q_len: usize,
+        h: *mut f32,
+        h_len: usize,
+        r: *mut f32,
+        r_len: usize,
+        states: *mut usize,
+        observations: *mut usize,
     ) -> usize;
     pub fn yurgamysh_cholesky_decompose_lower(n: usize, t: *mut f32, t_len: usize) -> usize;
     pub fn yurgamysh_invert_l_cholesky(

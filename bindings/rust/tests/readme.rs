@@ -23,11 +23,14 @@ fn no_line_is_hidden() {
     assert_eq!(hidden(README), Vec::<&str>::new());
 }
 
-/// The example that it shows is the one that stands in examples/.
+/// The examples that it shows are those that stand in examples/.
 #[test]
-fn the_example_is_shown_as_it_is() {
-    let example = include_str!("../examples/twelve_feeders.rs");
-    assert!(README.contains(&format!("\n```rust\n{example}```\n")));
+fn the_examples_are_shown_as_they_are() {
+    let examples =
+        [include_str!("../examples/twelve_feeders.rs"), include_str!("../examples/settings_card.rs")];
+    for example in examples {
+        assert!(README.contains(&format!("\n```rust\n{example}```\n")));
+    }
 }
 
 #[test]
