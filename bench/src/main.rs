@@ -2,6 +2,7 @@
 
 mod alone;
 mod any_rows;
+mod cards;
 mod filters;
 mod model;
 mod ours;
@@ -46,6 +47,15 @@ fn measure(plan: timing::Plan) -> Result<Vec<report::Figure>, String> {
     Ok(figures)
 }
 
+fn cards(plan: timing::Plan) -> Result<Vec<report::Card>, String> {
+    let mut read = Vec::new();
+    cards::run::<1, 1, 1, 1, 1>(plan, &mut read)?;
+    cards::run::<4, 2, 16, 8, 4>(plan, &mut read)?;
+    cards::run::<9, 3, 81, 27, 9>(plan, &mut read)?;
+    cards::run::<16, 16, 256, 256, 256>(plan, &mut read)?;
+    Ok(read)
+}
+
 /// Measures and prints; whether every bar of bench/README.md is met.
 fn run(data: Option<&str>) -> Result<bool, String> {
     let plan = timing::Plan {
@@ -55,9 +65,12 @@ fn run(data: Option<&str>) -> Result<bool, String> {
     let [accepted, refused] = any_rows::compare(ROWS)?;
     let figures = measure(plan)?;
     let rows = rows::run(plan)?;
+    let cards = cards(plan)?;
     report::table(&figures);
     println!();
     report::rows(&rows);
+    println!();
+    report::cards(&cards);
     println!();
     println!("{ROWS} rows of any numbers, none differing: {accepted} corrections accepted, {refused} refused");
     let [predict, correct] = alone::refused(plan)?;
@@ -74,9 +87,10 @@ fn run(data: Option<&str>) -> Result<bool, String> {
         println!("stack at {size}: predict {predict} bytes, correct {correct}, decomposition {decompose}");
     }
     if let Some(file) = data {
-        std::fs::write(file, report::lines(&figures, &rows)).map_err(|e| format!("{file}: {e}"))?;
+        std::fs::write(file, report::lines(&figures, &rows, &cards))
+            .map_err(|e| format!("{file}: {e}"))?;
     }
-    Ok(report::bars(&figures, &rows))
+    Ok(report::bars(&figures, &rows, &cards))
 }
 
 fn main() {

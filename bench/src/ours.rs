@@ -58,6 +58,20 @@ extern "C" {
         readings_len: usize,
         counts: *mut Counts,
     ) -> usize;
+    fn yurgamysh_card_read(
+        card: *const u8,
+        card_len: usize,
+        a: *mut f32,
+        a_len: usize,
+        q: *mut f32,
+        q_len: usize,
+        h: *mut f32,
+        h_len: usize,
+        r: *mut f32,
+        r_len: usize,
+        states: *mut usize,
+        observations: *mut usize,
+    ) -> usize;
 }
 
 #[derive(Clone, Copy)]
@@ -258,5 +272,49 @@ pub fn feeders_correct(feeders: &mut [OneState], z: &[f32], counts: &mut Counts)
             z.len(),
             counts,
         )
+    }
+}
+
+/// What a card is read into.
+pub struct Settings<const NN: usize, const MN: usize, const MM: usize> {
+    pub states: usize,
+    pub observations: usize,
+    pub a: [f32; NN],
+    pub q: [f32; NN],
+    pub h: [f32; MN],
+    pub r: [f32; MM],
+}
+
+impl<const NN: usize, const MN: usize, const MM: usize> Settings<NN, MN, MM> {
+    pub fn new() -> Self {
+        Settings {
+            states: 0,
+            observations: 0,
+            a: [0.0; NN],
+            q: [0.0; NN],
+            h: [0.0; MN],
+            r: [0.0; MM],
+        }
+    }
+
+    #[inline(always)]
+    pub fn card(&mut self, card: &[u8]) -> usize {
+        // SAFETY: a slice and arrays of their own, each with its length, and two numbers.
+        unsafe {
+            yurgamysh_card_read(
+                card.as_ptr(),
+                card.len(),
+                self.a.as_mut_ptr(),
+                NN,
+                self.q.as_mut_ptr(),
+                NN,
+                self.h.as_mut_ptr(),
+                MN,
+                self.r.as_mut_ptr(),
+                MM,
+                &mut self.states,
+                &mut self.observations,
+            )
+        }
     }
 }

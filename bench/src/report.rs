@@ -99,6 +99,24 @@ impl Row {
     }
 }
 
+/// A card that is read: its sizes, its bytes, and the times.
+pub struct Card {
+    n: usize,
+    m: usize,
+    bytes: usize,
+    times: Times,
+}
+
+impl Card {
+    pub fn of(n: usize, m: usize, bytes: usize, times: Times) -> Card {
+        Card { n, m, bytes, times }
+    }
+
+    fn a_byte(&self) -> f64 {
+        self.times.median / self.bytes as f64
+    }
+}
+
 pub fn table(figures: &[Figure]) {
     println!("| | ours, ns | original, arrays, ns | original, slices, ns | arrays / ours | slices / ours | arrays / ours, least |");
     println!("|---|---|---|---|---|---|---|");
@@ -138,8 +156,24 @@ pub fn rows(rows: &[Row]) {
     }
 }
 
+pub fn cards(cards: &[Card]) {
+    println!("| card read | bytes | ns | ns, least | ns a byte |");
+    println!("|---|---|---|---|---|");
+    for c in cards {
+        println!(
+            "| ({}, {}) | {} | {:.1} | {:.1} | {:.2} |",
+            c.n,
+            c.m,
+            c.bytes,
+            c.times.median,
+            c.times.least,
+            c.a_byte()
+        );
+    }
+}
+
 /// The figures as lines with tabs, a heading first; a figure that is not there is `?`.
-pub fn lines(figures: &[Figure], rows: &[Row]) -> String {
+pub fn lines(figures: &[Figure], rows: &[Row], cards: &[Card]) -> String {
     let mut text = String::from("what\tours\tarrays\tslices\tby_arrays\tby_slices\n");
     for f in figures {
         let (slices, by) = match f.slices {
@@ -159,6 +193,12 @@ pub fn lines(figures: &[Figure], rows: &[Row]) -> String {
             r.what, r.one.median, r.arrays.median, r.arrays.by_first
         );
     }
+    for c in cards {
+        text += &format!(
+            "card ({}, {})\t{:.2}\t?\t?\t?\t?\n",
+            c.n, c.m, c.times.median
+        );
+    }
     text
 }
 
@@ -168,7 +208,7 @@ fn mean(ratios: impl Iterator<Item = f64>) -> f64 {
 }
 
 /// Prints the geometric mean and the bars; whether all are met.
-pub fn bars(figures: &[Figure], [_, correct, _]: &[Row; 3]) -> bool {
+pub fn bars(figures: &[Figure], [_, correct, _]: &[Row; 3], cards: &[Card]) -> bool {
     let counted = || figures.iter().filter(|f| f.counts());
     let over_arrays = mean(counted().map(Figure::ratio));
     let over_slices = mean(counted().filter_map(|f| Some(f.slices?.by_first)));
@@ -209,5 +249,19 @@ pub fn bars(figures: &[Figure], [_, correct, _]: &[Row; 3]) -> bool {
         correct.ratio(),
         correct.ratio() >= 0.98,
     );
+    if let [_, small, .., largest] = cards {
+        let microseconds = largest.times.median / 1000.0;
+        bar(
+            "a card of (16, 16) read in less than 20 microseconds",
+            microseconds,
+            microseconds < 20.0,
+        );
+        let times = largest.a_byte() / small.a_byte();
+        bar(
+            "a byte of it at most 1.5 times one of a card of (4, 2)",
+            times,
+            times <= 1.5,
+        );
+    }
     all
 }
