@@ -13,13 +13,9 @@ use Rattle.answers.specs.declared.Answer.the-variants.{Done, Size, Short
 use Rattle.answers.specs.Answers.{numberOf, isDone}
 use Rattle.answers.specs.Tests.{sizeTaken, bufferTest, Lent, Place, sizeTests, bufferTests, placeTests, afterTests, callAnswer}
 use Rattle.answers.specs.Exactly.{All, FirstNot, holds, inside, Given, size, short, range, done}
+use Rattle.answers.proofs.Asked.{stays}
 
 -- ---- any list of tests
--- a refusal stays, whatever is tested after it
-refused : (v : Answer) (ws : List Answer) → isDone v ≡ false → afterTests v ws ≡ v
-refused v [] e = refl
-refused v (w ∷ ws) e = rw e (refused v ws e)
-
 decide : {A : Type 0} (p : A → Bool) (xs : List A) → All p xs ⊎ ((k : ℕ) × (y : A) × FirstNot p xs k y)
 decide p [] = inl tt
 decide {A = A} p (x ∷ xs) = go (p x) refl (decide p xs)
@@ -39,7 +35,7 @@ module _ {A : Type 0} (p : A → Bool) (says : ℕ → A → Answer) (tests : �
 
   fail : (j : ℕ) (xs : List A) (ws : List Answer) (k : ℕ) (y : A) → FirstNot p xs k y → afterTests Done (tests j xs ++ ws) ≡ says (j + k) y
   fail j [] ws k y h = absurd h
-  fail j (x ∷ xs) ws zero y h = rw (more j x xs, h .1, add-zero j) (refused (says j x) (tests (suc j) xs ++ ws) (stop j x) ∙ ap (says j) (h .0))
+  fail j (x ∷ xs) ws zero y h = rw (more j x xs, h .1, add-zero j) (stays (says j x) (tests (suc j) xs ++ ws) (stop j x) ∙ ap (says j) (h .0))
   fail j (x ∷ xs) ws (suc k) y h = rw (more j x xs, h .0, add-suc j k, ← suc-add j k) (fail (suc j) xs ws k y (h .1))
 
 -- ---- the three lists of a call

@@ -3,7 +3,7 @@
 -- Assumes nothing.
 use mathlib.Core.Path.{_≡_, refl, sym, ap, _∙_, subst}
 use mathlib.Core.Bool.{Bool, true, false, cond, true≢false}
-use mathlib.Core.List.{List, [], _∷_}
+use mathlib.Core.List.{List, _∷_}
 use Prim.Native.Nat.{ℕ, zero, suc, _+_, _-_, _≤_, _<_}
 use native.Mathlib.Nat.{zero-add, not-suc-le-zero, le-of-suc-le-suc}
 use native.Mathlib.Omega.{arith}
@@ -15,6 +15,7 @@ use Rattle.answers.specs.declared.Answer.{Answer}
 use Rattle.answers.specs.declared.Answer.the-variants.{Done, Size, Short, Range, Pivot, Line, Edition, NotFinite}
 use Rattle.answers.specs.Answers.{isDone, carriedBy}
 use Rattle.answers.specs.Tests.{afterTests}
+use Rattle.answers.proofs.Asked.{stays}
 use Rattle.card_text.specs.Lines.{ends}
 use Rattle.card_text.specs.Card.{editionKey, cardAnswer}
 use Rattle.card_text.specs.Spelling.{countText, line}
@@ -23,15 +24,10 @@ use Rattle.card_text.proofs.Spelt.{count-line, count-of}
 
 -- ---- the tests, line by line
 
--- a refusal stays, whatever is tested after it
-refused : (v : Answer) (ws : List Answer) → isDone v ≡ false → afterTests v ws ≡ v
-refused v [] e = refl
-refused v (w ∷ ws) e = rw e (refused v ws e)
-
 -- a test that says b decides whether the tests behind it are asked
 one : (b : Bool) (v : Answer) (ws : List Answer) → isDone v ≡ false → afterTests Done (cond b Done v ∷ ws) ≡ cond b (afterTests Done ws) v
 one true v ws e = refl
-one false v ws e = refused v ws e
+one false v ws e = stays v ws e
 
 -- what a line is refused with whose form is right, and which says what is not taken
 abbrev refusal : ℕ → Answer

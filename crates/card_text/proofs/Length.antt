@@ -9,18 +9,10 @@ use lib.Dec.{ltb}
 use lib.ListN.{length, length-append}
 use Rattle.card_text.specs.Lines.{newline}
 use Rattle.card_text.specs.Card.{editionKey, statesKey, observationsKey, aKey, qKey, hKey, rKey}
-use Rattle.card_text.specs.Spelling.{countText, entriesText, line, Settings, Patterns, Sound, cardText}
+use Rattle.card_text.specs.Spelling.{countText, entriesText, line, Settings, Patterns, Sound, cardText, countDigits, entriesCount}
 use Rattle.card_text.proofs.Entries.{entries-length}
 use Rattle.card_text.proofs.Patterns.{entries-are}
 use Rattle.card_text.proofs.Theorems.{behind1, behind2, behind3, behind4, behind5, behind6, some-a, some-h, some-r}
-
--- how many digits a count has
-abbrev pub countDigits : ℕ → ℕ
-countDigits n = cond (ltb n 10) 1 2
-
--- how many entries a card has
-abbrev pub entriesCount : ℕ → ℕ → ℕ
-entriesCount n m = n * n + n * n + m * n + m * m
 
 -- the bytes of a count, and of a line
 count-length : (n : ℕ) → length (countText n) ≡ countDigits n

@@ -3,21 +3,13 @@
 use mathlib.Core.Path.{_≡_, refl, sym, _∙_}
 use mathlib.Core.Bool.{true, false}
 use mathlib.Core.List.{List}
-use Prim.Native.Nat.{ℕ, zero, suc, _+_, _*_, _≤_, _<_}
+use Prim.Native.Nat.{ℕ, zero, suc, _+_, _*_, _≤_}
 use native.Mathlib.Omega.{arith}
 use Rattle.answers.specs.declared.Answer.the-variants.{Size, Line, Edition}
-use Rattle.card_text.specs.Lines.{ends, firstLine, behindLines}
+use Rattle.card_text.specs.Lines.{behindLines, SameLine, SameLines}
 use Rattle.card_text.specs.Card.{editionKey, statesKey, observationsKey, aKey, qKey, hKey, rKey, countLine, countOf, entriesLine, statesOf, observationsOf, cardAnswer}
 use Rattle.card_text.specs.FirstBad.{good, taken, RightAbove, bad-line, other-edition, bad-states, bad-observations}
 use Rattle.card_text.proofs.FirstBad.{given-only, first-bad-named, size-named, edition-named}
-
--- the first lines of two texts are the same, with whether they are ended
-abbrev pub SameLine : List ℕ → List ℕ → Type 0
-SameLine s t = (ends s ≡ ends t) × (firstLine s ≡ firstLine t)
-
--- the first k lines of two texts are
-abbrev pub SameLines : ℕ → List ℕ → List ℕ → Type 0
-SameLines k s t = (j : ℕ) → j < k → SameLine (behindLines j s) (behindLines j t)
 
 -- what a test of a line says goes by that line
 module _ (key s t : List ℕ) (same : SameLine s t) where

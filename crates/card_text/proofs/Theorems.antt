@@ -14,14 +14,10 @@ use Rattle.answers.specs.declared.Answer.the-variants.{Done}
 use Rattle.answers.specs.Tests.{sizeTaken}
 use Rattle.card_text.specs.Lines.{ends, behindLine, behindLines}
 use Rattle.card_text.specs.Card.{editionKey, statesKey, observationsKey, aKey, qKey, hKey, rKey, countOf, statesOf, observationsOf, nothing, aOf, qOf, hOf, rOf, cardAnswer}
-use Rattle.card_text.specs.Spelling.{countText, entriesText, line, Settings, Sound, cardText}
+use Rattle.card_text.specs.Spelling.{countText, entriesText, line, Settings, Sound, cardText, held}
 use Rattle.card_text.specs.FirstBad.{good, taken, RightAbove}
 use Rattle.card_text.proofs.Spelt.{count-behind, count-line, count-of, count-line-text, entries-behind, entries-line, entries-of, entries-line-text, entries-line-patterns}
 use Rattle.card_text.proofs.FirstBad.{none-above, next, done-right, right-done}
-
--- what the text holds, read as a card
-abbrev pub held : ℕ → List ℕ → Settings
-held d s = record { n = statesOf s; m = observationsOf s; a = aOf d s; q = qOf d s; h = hOf d s; r = rOf d s }
 
 -- ---- the card of settings
 

@@ -1,7 +1,8 @@
 -- The lines of a text, which is a list of bytes (R34). Definitions only.
+use mathlib.Core.Path.{_≡_}
 use mathlib.Core.Bool.{Bool, false, _||_, cond}
 use mathlib.Core.List.{List, [], _∷_}
-use Prim.Native.Nat.{ℕ, zero, suc}
+use Prim.Native.Nat.{ℕ, zero, suc, _<_}
 use lib.Dec.{eqb}
 
 -- the byte that ends a line
@@ -28,3 +29,11 @@ unfoldable pub behindLines : ℕ → List ℕ → List ℕ
 unfolding behindLine
 behindLines zero t = t
 behindLines (suc k) t = behindLine (behindLines k t)
+
+-- the first lines of two texts are the same, with whether they are ended
+abbrev pub SameLine : List ℕ → List ℕ → Type 0
+SameLine s t = (ends s ≡ ends t) × (firstLine s ≡ firstLine t)
+
+-- the first k lines of two texts are
+abbrev pub SameLines : ℕ → List ℕ → List ℕ → Type 0
+SameLines k s t = (j : ℕ) → j < k → SameLine (behindLines j s) (behindLines j t)

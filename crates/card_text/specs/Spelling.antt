@@ -7,7 +7,7 @@ use lib.Dec.{ltb}
 use lib.ListN.{length}
 use Rattle.card_text.specs.Lines.{newline}
 use Rattle.card_text.specs.Values.{comma}
-use Rattle.card_text.specs.Card.{editionKey, statesKey, observationsKey, aKey, qKey, hKey, rKey}
+use Rattle.card_text.specs.Card.{editionKey, statesKey, observationsKey, aKey, qKey, hKey, rKey, statesOf, observationsOf, aOf, qOf, hOf, rOf}
 
 -- a number below 100, in one decimal digit where it is below 10, else in two
 unfoldable pub countText : ℕ → List ℕ
@@ -73,3 +73,14 @@ cardText d c =
     (line qKey (entriesText d (c .q))
     (line hKey (entriesText d (c .h))
     (line rKey (entriesText d (c .r)) []))))))
+
+-- what a text holds, read as a card
+abbrev pub held : ℕ → List ℕ → Settings
+held d s = record { n = statesOf s; m = observationsOf s; a = aOf d s; q = qOf d s; h = hOf d s; r = rOf d s }
+
+-- how many digits a count has, and how many entries a card
+abbrev pub countDigits : ℕ → ℕ
+countDigits n = cond (ltb n 10) 1 2
+
+abbrev pub entriesCount : ℕ → ℕ → ℕ
+entriesCount n m = n * n + n * n + m * n + m * m
