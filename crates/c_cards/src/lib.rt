@@ -1,4 +1,5 @@
 // Settings cards, for C and Rust programs.
+ghost use lib.Ieee.{binary32};
 ghost use Rattle.c_codes.specs.Code.{Told};
 ghost use Rattle.c_cards.specs.Into.{CardInto};
 use cards::Card;
@@ -15,7 +16,7 @@ pub extern "C" fn yurgamysh_card_read(
     states: &mut usize,
     observations: &mut usize,
 ) -> usize
-    ensures { λ code. ⌜ Told (λ v. CardInto (now (card .entry)) (now (a .entry)) (now (q .entry)) (now (h .entry)) (now (r .entry)) (now (states .entry)) (now (observations .entry)) v (now (a .exit)) (now (q .exit)) (now (h .exit)) (now (r .exit)) (now (states .exit)) (now (observations .exit))) code ⌝ }
+    ensures { λ code. ⌜ Told (λ v. CardInto binary32 8 (now (card .entry)) (now (a .entry)) (now (q .entry)) (now (h .entry)) (now (r .entry)) (now (states .entry)) (now (observations .entry)) v (now (a .exit)) (now (q .exit)) (now (h .exit)) (now (r .exit)) (now (states .exit)) (now (observations .exit))) code ⌝ }
 {
     match cards::read(card, a, q, h, r) {
         Card::Sizes(n, m) => {

@@ -54,31 +54,31 @@ digits-more s p i x r h is e =
 pub at-most-one : (b r : ℕ) → r ≡ digitOf b / 16 → r ≤ 1
 at-most-one b r e = omega (arith, small b)
 
-module _ (s : List ℕ) (p end : ℕ) where
-  -- there is no byte behind eight
-  pub no-field : length s - p < 9 → 1 ≤ end → false ≡ field 8 end (drop p s)
+module _ (d : ℕ) (s : List ℕ) (p end : ℕ) where
+  -- there is no byte behind d
+  pub no-field : length s - p < suc d → 1 ≤ end → false ≡ field d end (drop p s)
   unfolding field
   no-field h some =
-      rw (List·getD-eq-default (drop p s) 0 {n = 8} (omega (arith, length-drop p s)), ne-eqb 0 end (λ (e : 0 ≡ end). omega arith))
-      (sym (nothing (areDigits (take 8 (drop p s)))))
+      rw (List·getD-eq-default (drop p s) 0 {n = d} (omega (arith, length-drop p s)), ne-eqb 0 end (λ (e : 0 ≡ end). omega arith))
+      (sym (nothing (areDigits (take d (drop p s)))))
     where
       nothing : (y : Bool) → (y && false) ≡ false
       nothing true = refl
       nothing false = refl
 
-  module _ (i x : ℕ) (all : i ≡ 8) (e : eqb x 0 ≡ areDigits (take i (drop p s))) where
-    eight : eqb x 0 ≡ areDigits (take 8 (drop p s))
-    eight = e ∙ ap (λ (j : ℕ). areDigits (take j (drop p s))) all
+  module _ (i x : ℕ) (all : i ≡ d) (e : eqb x 0 ≡ areDigits (take i (drop p s))) where
+    whole : eqb x 0 ≡ areDigits (take d (drop p s))
+    whole = e ∙ ap (λ (j : ℕ). areDigits (take j (drop p s))) all
 
-    -- eight digits, and the byte behind them
-    pub by-byte : x ≡ 0 → eqb (getD s (p + 8) 0) end ≡ field 8 end (drop p s)
+    -- d digits, and the byte behind them
+    pub by-byte : x ≡ 0 → eqb (getD s (p + d) 0) end ≡ field d end (drop p s)
     unfolding field
-    by-byte z = rw (sym eight, eq-eqb x 0 z) (ap (λ (b : ℕ). eqb b end) (sym (getD-drop p s 8 0)))
+    by-byte z = rw (sym whole, eq-eqb x 0 z) (ap (λ (b : ℕ). eqb b end) (sym (getD-drop p s d 0)))
 
     -- some byte is no digit
-    pub by-other : (x ≡ 0 → ⊥) → eqb x 0 ≡ field 8 end (drop p s)
+    pub by-other : (x ≡ 0 → ⊥) → eqb x 0 ≡ field d end (drop p s)
     unfolding field
-    by-other z = rw (sym eight, ne-eqb x 0 z)
+    by-other z = rw (sym whole, ne-eqb x 0 z)
 
 -- ---- the number that they spell
 
@@ -93,33 +93,33 @@ each [] i e h = absurd (not-suc-le-zero h)
 each (b ∷ t) zero e h = ltb-true (digitOf b) 16 (and-eq-true-iff (ltb (digitOf b) 16) (areDigits t) .0 e .0)
 each (b ∷ t) (suc i) e h = each t i (and-eq-true-iff (ltb (digitOf b) 16) (areDigits t) .0 e .1) (le-of-suc-le-suc h)
 
--- what i digits spell stays below 16^i, and so below 2^32 where i is at most 8
+-- what i digits spell stays below 16^i, and so below 16^d where i is at most d
 grows : (n d i : ℕ) → n < 16 ^ i → d < 16 → n * 16 + d < 16 ^ (i + 1)
 grows n d i h k = rw (add-one i, pow-suc 16 i) (omega arith)
 
-below : (n i : ℕ) → i ≤ 8 → n < 16 ^ i → n < 4294967296
-below n i h k = le-trans k (pow-le-pow-right {n = 16} (lit< tt) {i = i} {j = 8} h)
+below : (d n i : ℕ) → i ≤ d → n < 16 ^ i → n < 16 ^ d
+below d n i h k = le-trans k (pow-le-pow-right {n = 16} (lit< tt) {i = i} {j = d} h)
 
 -- there is room for a digit more
-pub entry-room : (n i : ℕ) → i < 8 → n < 16 ^ i → n * 16 < 4294967296
-entry-room n i h k = below (n * 16) (i + 1) (omega arith) (omega (arith, grows n 0 i k (lit< tt)))
+pub entry-room : (d n i : ℕ) → i < d → n < 16 ^ i → n * 16 < 16 ^ d
+entry-room d n i h k = below d (n * 16) (i + 1) (omega arith) (omega (arith, grows n 0 i k (lit< tt)))
 
-module _ (s : List ℕ) (p : ℕ) (room : p + 8 ≤ length s) (good : areDigits (take 8 (drop p s)) ≡ true) (i : ℕ) (h : i < 8) where
+module _ (w : ℕ) (s : List ℕ) (p : ℕ) (room : p + w ≤ length s) (good : areDigits (take w (drop p s)) ≡ true) (i : ℕ) (h : i < w) where
   pub a-digit : digitOf (getD s (p + i) 0) < 16
   a-digit =
-      subst (λ (b : ℕ). digitOf b < 16) (getD-take 8 (drop p s) i 0 h ∙ getD-drop p s i 0)
-      (each (take 8 (drop p s)) i good (rw (length-take-le 8 (drop p s) (omega (arith, length-drop p s))) h))
+      subst (λ (b : ℕ). digitOf b < 16) (getD-take w (drop p s) i 0 h ∙ getD-drop p s i 0)
+      (each (take w (drop p s)) i good (rw (length-take-le w (drop p s) (omega (arith, length-drop p s))) h))
 
   module _ (n d : ℕ) (is : d ≡ digitOf (getD s (p + i) 0)) (few : n < 16 ^ i) where
     pub entry-small : n * 16 + d < 16 ^ (i + 1)
     entry-small = grows n d i few (subst (λ (x : ℕ). x < 16) (sym is) a-digit)
 
-    pub entry-fits : n * 16 + d < 4294967296
-    entry-fits = below (n * 16 + d) (i + 1) (omega arith) entry-small
+    pub entry-fits : n * 16 + d < 16 ^ w
+    entry-fits = below w (n * 16 + d) (i + 1) (omega arith) entry-small
 
     pub entry-more : n ≡ speltFrom 0 (take i (drop p s)) → n * 16 + d ≡ speltFrom 0 (take (i + 1) (drop p s))
     entry-more e = rw (e, is) (sym (ap (speltFrom 0) (longer s p i (omega arith)) ∙ spelt-more 0 (take i (drop p s)) (getD s (p + i) 0)))
 
--- all eight are read
-pub entry-whole : (s : List ℕ) (p i n : ℕ) → i ≡ 8 → n ≡ speltFrom 0 (take i (drop p s)) → n ≡ speltFrom 0 (take 8 (drop p s))
-entry-whole s p i n all e = e ∙ ap (λ (j : ℕ). speltFrom 0 (take j (drop p s))) all
+-- all of them are read
+pub entry-whole : (d : ℕ) (s : List ℕ) (p i n : ℕ) → i ≡ d → n ≡ speltFrom 0 (take i (drop p s)) → n ≡ speltFrom 0 (take d (drop p s))
+entry-whole d s p i n all e = e ∙ ap (λ (j : ℕ). speltFrom 0 (take j (drop p s))) all

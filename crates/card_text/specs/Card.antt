@@ -7,7 +7,7 @@ use lib.Dec.{eqb}
 use lib.ListN.{length, drop}
 use Rattle.answers.specs.declared.Answer.{Answer}
 use Rattle.answers.specs.declared.Answer.the-variants.{Done, Line, Edition}
-use Rattle.answers.specs.Tests.{sizeTest, lent, bufferTests, afterTests}
+use Rattle.answers.specs.Tests.{sizeTest, Lent, lent, bufferTests, afterTests}
 use Rattle.card_text.specs.Lines.{ends, firstLine, behindLines}
 use Rattle.card_text.specs.Values.{begins, isCount, numberIn, areEntries, entriesIn}
 
@@ -113,12 +113,13 @@ cardTests d n m s = headTests n m s ++ matrixTests d n m s
 unfoldable pub cardAnswer : ℕ → List ℕ → Answer
 cardAnswer d s = afterTests Done (cardTests d (statesOf s) (observationsOf s) s)
 
--- and then the buffers for A, Q, H and R, of so many numbers
+-- the buffers for A, Q, H and R of n states and m observations, of so many numbers
+abbrev pub buffers : ℕ → ℕ → ℕ → ℕ → ℕ → ℕ → List Lent
+buffers n m la lq lh lr = lent (n * n) la ∷ lent (n * n) lq ∷ lent (m * n) lh ∷ lent (m * m) lr ∷ []
+
+-- what the card and then these buffers are answered with
 unfoldable pub readAnswer : ℕ → List ℕ → ℕ → ℕ → ℕ → ℕ → Answer
-readAnswer d s la lq lh lr =
-    let n = statesOf s in
-    let m = observationsOf s in
-    afterTests (cardAnswer d s) (bufferTests 0 (lent (n * n) la ∷ lent (n * n) lq ∷ lent (m * n) lh ∷ lent (m * m) lr ∷ []))
+readAnswer d s la lq lh lr = afterTests (cardAnswer d s) (bufferTests 0 (buffers (statesOf s) (observationsOf s) la lq lh lr))
 
 -- ---- what a card that is taken holds: the patterns of A, Q, H and R, row after row
 

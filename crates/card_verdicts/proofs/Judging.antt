@@ -163,18 +163,18 @@ module _ (s : List ℕ) (p k : ℕ) (here : Here s p k) where
 
 -- ---- the whole card
 
-module _ (s : List ℕ) where
+module _ (d : ℕ) (s : List ℕ) where
   -- refused in its head
-  pub head-refuses : (v : Answer) → headAnswer s ≡ v → isDone v ≡ false → cardAnswer 8 s ≡ v
+  pub head-refuses : (v : Answer) → headAnswer s ≡ v → isDone v ≡ false → cardAnswer d s ≡ v
   unfolding cardAnswer headAnswer
   head-refuses v h r = ap (λ (u : Answer). afterTests u rest) h ∙ stays v rest r
     where
       rest : List Answer
-      rest = matrixTests 8 (statesOf s) (observationsOf s) s
+      rest = matrixTests d (statesOf s) (observationsOf s) s
 
   -- the matrices decide
-  pub matrices-decide : (n m : ℕ) (v : Answer) → headAnswer s ≡ Done → n ≡ statesOf s → m ≡ observationsOf s → v ≡ matricesAnswer 8 n m s → cardAnswer 8 s ≡ v
+  pub matrices-decide : (n m : ℕ) (v : Answer) → headAnswer s ≡ Done → n ≡ statesOf s → m ≡ observationsOf s → v ≡ matricesAnswer d n m s → cardAnswer d s ≡ v
   unfolding cardAnswer headAnswer matricesAnswer
   matrices-decide n m v h en em e =
-      ap (λ (u : Answer). afterTests u (matrixTests 8 (statesOf s) (observationsOf s) s)) h
-      ∙ sym (e ∙ ap (λ (x : ℕ). afterTests Done (matrixTests 8 x m s)) en ∙ ap (λ (x : ℕ). afterTests Done (matrixTests 8 (statesOf s) x s)) em)
+      ap (λ (u : Answer). afterTests u (matrixTests d (statesOf s) (observationsOf s) s)) h
+      ∙ sym (e ∙ ap (λ (x : ℕ). afterTests Done (matrixTests d x m s)) en ∙ ap (λ (x : ℕ). afterTests Done (matrixTests d (statesOf s) x s)) em)

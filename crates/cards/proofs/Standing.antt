@@ -1,6 +1,6 @@
 -- Where the matrices of a card stand: behind its key a line that is right has its entries, each with a byte behind it, and then the next line begins.
 -- Assumes nothing.
-use mathlib.Core.Path.{_≡_, refl, sym, ap, _∙_, subst}
+use mathlib.Core.Path.{_≡_, sym, ap, _∙_, subst}
 use mathlib.Core.Bool.{true, false, and-eq-true-iff}
 use mathlib.Core.List.{List, _∷_}
 use Prim.Native.Nat.{ℕ, suc, _+_, _*_, _≤_}
@@ -9,7 +9,7 @@ use lib.ListN.{length, drop, length-append}
 use lib.Seq.{drop-drop}
 use Rattle.card_text.specs.Lines.{newline, ends, firstLine, behindLine, behindLines}
 use Rattle.card_text.specs.Values.{begins, areEntries, entriesIn}
-use Rattle.card_text.specs.Card.{aKey, qKey, hKey, rKey, keyed, valueOf, entriesLine, entriesOf}
+use Rattle.card_text.specs.Card.{keyed, valueOf, entriesLine, entriesOf}
 use Rattle.card_text.proofs.Lines.{cut}
 use Rattle.card_text.proofs.Keys.{first-key, keyed-by, value-by, keyed-begins}
 use Rattle.card_text.proofs.Entries.{entries-length, entries-front}
@@ -18,26 +18,6 @@ use Rattle.card_lines.proofs.Places.{keyed-ends, entries-keyed}
 use Rattle.card_lines.proofs.Fields.{entries-fields}
 use Rattle.card_verdicts.specs.Verdicts.{Here}
 use Rattle.card_verdicts.proofs.Judging.{next-here}
-
--- ---- the keys have no newline in them
-
-pub plain-a : ends aKey ≡ false
-unfolding ends
-plain-a = refl
-
-pub plain-q : ends qKey ≡ false
-unfolding ends
-plain-q = refl
-
-pub plain-h : ends hKey ≡ false
-unfolding ends
-plain-h = refl
-
-pub plain-r : ends rKey ≡ false
-unfolding ends
-plain-r = refl
-
--- ---- a line of entries
 
 module _ (s : List ℕ) (p j : ℕ) (here : Here s p j) (d k : ℕ) (key : List ℕ) (plain : ends key ≡ false) (right : entriesLine d key k (behindLines j s) ≡ true) where
   keyed-line : keyed key (behindLines j s) ≡ true

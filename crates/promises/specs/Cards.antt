@@ -6,83 +6,62 @@ use lib.Dec.{eqb}
 use Rattle.answers.specs.Answers.{numberOf, carriedBy}
 use Rattle.card_text.specs.Card.{cardAnswer, readAnswer, statesOf, observationsOf, aOf, qOf, hOf, rOf}
 
--- ---- lines, each with the newline that ends it
+-- ---- lines with the newline that ends them, byte by byte
 
--- `edition=1`
-abbrev pub edition1 : List ℕ
-edition1 = 101 ∷ 100 ∷ 105 ∷ 116 ∷ 105 ∷ 111 ∷ 110 ∷ 61 ∷ 49 ∷ 10 ∷ []
+-- `edition=`, `states=` and `observations=`, and the bytes of a count
+abbrev pub edition : List ℕ → List ℕ
+edition v = 101 ∷ 100 ∷ 105 ∷ 116 ∷ 105 ∷ 111 ∷ 110 ∷ 61 ∷ (v ++ (10 ∷ []))
 
--- `states=1`
-abbrev pub states1 : List ℕ
-states1 = 115 ∷ 116 ∷ 97 ∷ 116 ∷ 101 ∷ 115 ∷ 61 ∷ 49 ∷ 10 ∷ []
+abbrev pub states : List ℕ → List ℕ
+states v = 115 ∷ 116 ∷ 97 ∷ 116 ∷ 101 ∷ 115 ∷ 61 ∷ (v ++ (10 ∷ []))
 
--- `observations=1`
-abbrev pub observations1 : List ℕ
-observations1 = 111 ∷ 98 ∷ 115 ∷ 101 ∷ 114 ∷ 118 ∷ 97 ∷ 116 ∷ 105 ∷ 111 ∷ 110 ∷ 115 ∷ 61 ∷ 49 ∷ 10 ∷ []
+abbrev pub observations : List ℕ → List ℕ
+observations v = 111 ∷ 98 ∷ 115 ∷ 101 ∷ 114 ∷ 118 ∷ 97 ∷ 116 ∷ 105 ∷ 111 ∷ 110 ∷ 115 ∷ 61 ∷ (v ++ (10 ∷ []))
 
--- `a=3f800000`
-abbrev pub a1 : List ℕ
-a1 = 97 ∷ 61 ∷ 51 ∷ 102 ∷ 56 ∷ 48 ∷ 48 ∷ 48 ∷ 48 ∷ 48 ∷ 10 ∷ []
+-- `1`, `0`, `00`, `01`, `2`, `17`, `99`, `100` and `123`
+abbrev pub c1 : List ℕ
+c1 = 49 ∷ []
 
--- `q=3c800000`
-abbrev pub q1 : List ℕ
-q1 = 113 ∷ 61 ∷ 51 ∷ 99 ∷ 56 ∷ 48 ∷ 48 ∷ 48 ∷ 48 ∷ 48 ∷ 10 ∷ []
+abbrev pub c0 : List ℕ
+c0 = 48 ∷ []
 
--- `h=3f800000`
-abbrev pub h1 : List ℕ
-h1 = 104 ∷ 61 ∷ 51 ∷ 102 ∷ 56 ∷ 48 ∷ 48 ∷ 48 ∷ 48 ∷ 48 ∷ 10 ∷ []
+abbrev pub c00 : List ℕ
+c00 = 48 ∷ 48 ∷ []
 
--- `r=3f800000`
-abbrev pub r1 : List ℕ
-r1 = 114 ∷ 61 ∷ 51 ∷ 102 ∷ 56 ∷ 48 ∷ 48 ∷ 48 ∷ 48 ∷ 48 ∷ 10 ∷ []
+abbrev pub c01 : List ℕ
+c01 = 48 ∷ 49 ∷ []
 
--- `edition=0`
-abbrev pub edition0 : List ℕ
-edition0 = 101 ∷ 100 ∷ 105 ∷ 116 ∷ 105 ∷ 111 ∷ 110 ∷ 61 ∷ 48 ∷ 10 ∷ []
+abbrev pub c2 : List ℕ
+c2 = 50 ∷ []
 
--- `edition=2`
-abbrev pub edition2 : List ℕ
-edition2 = 101 ∷ 100 ∷ 105 ∷ 116 ∷ 105 ∷ 111 ∷ 110 ∷ 61 ∷ 50 ∷ 10 ∷ []
+abbrev pub c17 : List ℕ
+c17 = 49 ∷ 55 ∷ []
 
--- `edition=01`
-abbrev pub edition01 : List ℕ
-edition01 = 101 ∷ 100 ∷ 105 ∷ 116 ∷ 105 ∷ 111 ∷ 110 ∷ 61 ∷ 48 ∷ 49 ∷ 10 ∷ []
+abbrev pub c99 : List ℕ
+c99 = 57 ∷ 57 ∷ []
 
--- `edition=99`
-abbrev pub edition99 : List ℕ
-edition99 = 101 ∷ 100 ∷ 105 ∷ 116 ∷ 105 ∷ 111 ∷ 110 ∷ 61 ∷ 57 ∷ 57 ∷ 10 ∷ []
+abbrev pub c100 : List ℕ
+c100 = 49 ∷ 48 ∷ 48 ∷ []
 
--- `edition=100`
-abbrev pub edition100 : List ℕ
-edition100 = 101 ∷ 100 ∷ 105 ∷ 116 ∷ 105 ∷ 111 ∷ 110 ∷ 61 ∷ 49 ∷ 48 ∷ 48 ∷ 10 ∷ []
+abbrev pub c123 : List ℕ
+c123 = 49 ∷ 50 ∷ 51 ∷ []
 
--- `states=0`
-abbrev pub states0 : List ℕ
-states0 = 115 ∷ 116 ∷ 97 ∷ 116 ∷ 101 ∷ 115 ∷ 61 ∷ 48 ∷ 10 ∷ []
+-- a letter, `=`, and the bytes of entries: `a=`, `q=`, `h=` and `r=` by 97, 113, 104 and 114
+abbrev pub matrix : ℕ → List ℕ → List ℕ
+matrix key v = key ∷ 61 ∷ (v ++ (10 ∷ []))
 
--- `states=00`
-abbrev pub states00 : List ℕ
-states00 = 115 ∷ 116 ∷ 97 ∷ 116 ∷ 101 ∷ 115 ∷ 61 ∷ 48 ∷ 48 ∷ 10 ∷ []
+-- `3f800000`, `3c800000`, `3F800000` and `3f800000,`
+abbrev pub one : List ℕ
+one = 51 ∷ 102 ∷ 56 ∷ 48 ∷ 48 ∷ 48 ∷ 48 ∷ 48 ∷ []
 
--- `states=17`
-abbrev pub states17 : List ℕ
-states17 = 115 ∷ 116 ∷ 97 ∷ 116 ∷ 101 ∷ 115 ∷ 61 ∷ 49 ∷ 55 ∷ 10 ∷ []
+abbrev pub sixtyfourth : List ℕ
+sixtyfourth = 51 ∷ 99 ∷ 56 ∷ 48 ∷ 48 ∷ 48 ∷ 48 ∷ 48 ∷ []
 
--- `states=123`
-abbrev pub states123 : List ℕ
-states123 = 115 ∷ 116 ∷ 97 ∷ 116 ∷ 101 ∷ 115 ∷ 61 ∷ 49 ∷ 50 ∷ 51 ∷ 10 ∷ []
+abbrev pub capital : List ℕ
+capital = 51 ∷ 70 ∷ 56 ∷ 48 ∷ 48 ∷ 48 ∷ 48 ∷ 48 ∷ []
 
--- `a=3F800000`
-abbrev pub aCapital : List ℕ
-aCapital = 97 ∷ 61 ∷ 51 ∷ 70 ∷ 56 ∷ 48 ∷ 48 ∷ 48 ∷ 48 ∷ 48 ∷ 10 ∷ []
-
--- `a=3f800000,`
-abbrev pub aComma : List ℕ
-aComma = 97 ∷ 61 ∷ 51 ∷ 102 ∷ 56 ∷ 48 ∷ 48 ∷ 48 ∷ 48 ∷ 48 ∷ 44 ∷ 10 ∷ []
-
--- `states=2`
-abbrev pub states2 : List ℕ
-states2 = 115 ∷ 116 ∷ 97 ∷ 116 ∷ 101 ∷ 115 ∷ 61 ∷ 50 ∷ 10 ∷ []
+abbrev pub comma : List ℕ
+comma = 51 ∷ 102 ∷ 56 ∷ 48 ∷ 48 ∷ 48 ∷ 48 ∷ 48 ∷ 44 ∷ []
 
 -- ---- texts
 
@@ -102,19 +81,22 @@ cut [] = []
 cut (b ∷ []) = []
 cut (b ∷ c ∷ t) = b ∷ cut (c ∷ t)
 
--- the whole card of one state and one observation
-abbrev pub card : List ℕ
-card = text (edition1 ∷ states1 ∷ observations1 ∷ a1 ∷ q1 ∷ h1 ∷ r1 ∷ [])
+-- the card of one state and one observation with these in the places of lines 1, 2 and 4
+abbrev pub lines : List ℕ → List ℕ → List ℕ → List ℕ
+lines e n a = text (e ∷ n ∷ observations c1 ∷ a ∷ matrix 113 sixtyfourth ∷ matrix 104 one ∷ matrix 114 one ∷ [])
 
--- the same with other lines in the places of 1, 2 and 4
+-- the whole card, and the same with another line 1, 2 or 4
+abbrev pub card : List ℕ
+card = lines (edition c1) (states c1) (matrix 97 one)
+
 abbrev pub with1 : List ℕ → List ℕ
-with1 l = text (l ∷ states1 ∷ observations1 ∷ a1 ∷ q1 ∷ h1 ∷ r1 ∷ [])
+with1 v = lines (edition v) (states c1) (matrix 97 one)
 
 abbrev pub with2 : List ℕ → List ℕ
-with2 l = text (edition1 ∷ l ∷ observations1 ∷ a1 ∷ q1 ∷ h1 ∷ r1 ∷ [])
+with2 v = lines (edition c1) (states v) (matrix 97 one)
 
 abbrev pub with4 : List ℕ → List ℕ
-with4 l = text (edition1 ∷ states1 ∷ observations1 ∷ l ∷ q1 ∷ h1 ∷ r1 ∷ [])
+with4 v = lines (edition c1) (states c1) (matrix 97 v)
 
 -- ---- answers
 

@@ -239,28 +239,28 @@ table =
     -- no text at all
     && judged [] 5 (1 ∷ [])
     -- `edition=0`, `2`, `99`, and with nothing below it; `01` and `100`; `edition=2` with no newline
-    && judged (cards.with1 cards.edition0) 6 []
-    && judged (cards.with1 cards.edition99) 6 []
-    && judged cards.edition2 6 []
-    && judged (cards.with1 cards.edition01) 5 (1 ∷ [])
-    && judged (cards.with1 cards.edition100) 5 (1 ∷ [])
-    && judged (cards.cut cards.edition2) 5 (1 ∷ [])
+    && judged (cards.with1 cards.c0) 6 []
+    && judged (cards.with1 cards.c99) 6 []
+    && judged (cards.edition cards.c2) 6 []
+    && judged (cards.with1 cards.c01) 5 (1 ∷ [])
+    && judged (cards.with1 cards.c100) 5 (1 ∷ [])
+    && judged (cards.cut (cards.edition cards.c2)) 5 (1 ∷ [])
     -- `states=0` and `17`; `00` and `123`
-    && judged (cards.with2 cards.states0) 1 (0 ∷ [])
-    && judged (cards.with2 cards.states17) 1 (0 ∷ [])
-    && judged (cards.with2 cards.states00) 5 (2 ∷ [])
-    && judged (cards.with2 cards.states123) 5 (2 ∷ [])
+    && judged (cards.with2 cards.c0) 1 (0 ∷ [])
+    && judged (cards.with2 cards.c17) 1 (0 ∷ [])
+    && judged (cards.with2 cards.c00) 5 (2 ∷ [])
+    && judged (cards.with2 cards.c123) 5 (2 ∷ [])
     -- `states=2` with the matrices of one state
-    && judged (cards.with2 cards.states2) 5 (4 ∷ [])
+    && judged (cards.with2 cards.c2) 5 (4 ∷ [])
     -- a capital digit, and one comma too many
-    && judged (cards.with4 cards.aCapital) 5 (4 ∷ [])
-    && judged (cards.with4 cards.aComma) 5 (4 ∷ [])
+    && judged (cards.with4 cards.capital) 5 (4 ∷ [])
+    && judged (cards.with4 cards.comma) 5 (4 ∷ [])
     -- lines 2 and 3 swapped, and lines 5 and 6
-    && judged (cards.text (cards.edition1 ∷ cards.observations1 ∷ cards.states1 ∷ cards.a1 ∷ cards.q1 ∷ cards.h1 ∷ cards.r1 ∷ [])) 5 (2 ∷ [])
-    && judged (cards.text (cards.edition1 ∷ cards.states1 ∷ cards.observations1 ∷ cards.a1 ∷ cards.h1 ∷ cards.q1 ∷ cards.r1 ∷ [])) 5 (5 ∷ [])
+    && judged (cards.text (cards.edition cards.c1 ∷ cards.observations cards.c1 ∷ cards.states cards.c1 ∷ cards.matrix 97 cards.one ∷ cards.matrix 113 cards.one ∷ cards.matrix 104 cards.one ∷ cards.matrix 114 cards.one ∷ [])) 5 (2 ∷ [])
+    && judged (cards.text (cards.edition cards.c1 ∷ cards.states cards.c1 ∷ cards.observations cards.c1 ∷ cards.matrix 97 cards.one ∷ cards.matrix 104 cards.one ∷ cards.matrix 113 cards.one ∷ cards.matrix 114 cards.one ∷ [])) 5 (5 ∷ [])
     -- `states=17` above a broken line 5, and below a broken line 1
-    && judged (cards.text (cards.edition1 ∷ cards.states17 ∷ cards.observations1 ∷ cards.a1 ∷ cards.h1 ∷ [])) 1 (0 ∷ [])
-    && judged (cards.text (cards.edition01 ∷ cards.states17 ∷ [])) 5 (1 ∷ [])
+    && judged (cards.text (cards.edition cards.c1 ∷ cards.states cards.c17 ∷ cards.observations cards.c1 ∷ cards.matrix 97 cards.one ∷ cards.matrix 104 cards.one ∷ [])) 1 (0 ∷ [])
+    && judged (cards.text (cards.edition cards.c01 ∷ cards.states cards.c17 ∷ [])) 5 (1 ∷ [])
     -- buffers of 1, 1, 0 and 0 numbers; the same for a card with a byte behind it
     && judgedWith cards.card 1 1 0 0 2 (2 ∷ [])
     && judgedWith (cards.card ++ (0 ∷ [])) 0 0 0 0 5 (8 ∷ [])

@@ -1,5 +1,6 @@
 -- `yurgamysh_card_read` meets its contract, by the two cases of what `read` says. Assumes nothing.
 use denote.Ref.{now}
+use lib.Ieee.{binary32}
 use Rattle.c_cards.proofs.Reading.{sized, refused}
 use borrow.Author.Needs.{needs}
 use Rattle.c_cards.proofs.yurgamysh_card_read.Statement.{statement}
@@ -32,7 +33,7 @@ same-length-4 c = search needs
 returns : tie.Need-returns
 returns c =
     let a = c .before .before .before .before .before .before .before .before .before .before .before .before .before .before .before .before .before .before .before .before .before .args in
-    sized (now (a .card)) (now (a .a)) (now (a .q)) (now (a .h)) (now (a .r)) (now (a .states)) (now (a .observations)) _ _ _ _ (c .before .before .before .before .before .before .before .before .before .before .before .read .ensures) (c .before .n .given .1)
+    sized binary32 8 (now (a .card)) (now (a .a)) (now (a .q)) (now (a .h)) (now (a .r)) (now (a .states)) (now (a .observations)) _ _ _ _ (c .before .before .before .before .before .before .before .before .before .before .before .read .ensures) (c .before .n .given .1)
 
 same-length-5 : tie.Need-same-length-5
 same-length-5 c = search needs
@@ -49,7 +50,7 @@ same-length-8 c = search needs
 returns-2 : tie.Need-returns-2
 returns-2 c =
     let a = c .before .before .before .before .before .before .before .before .before .before .before .before .before .before .before .before .before .before .before .before .before .before .args in
-    refused (now (a .card)) (now (a .a)) (now (a .q)) (now (a .h)) (now (a .r)) (now (a .states)) (now (a .observations)) _ _ _ _ (c .before .before .before .before .before .before .before .before .before .before .before .before .read .ensures) (c .before .before .v .given .1) (c .code-of .ensures)
+    refused binary32 8 (now (a .card)) (now (a .a)) (now (a .q)) (now (a .h)) (now (a .r)) (now (a .states)) (now (a .observations)) _ _ _ _ (c .before .before .before .before .before .before .before .before .before .before .before .before .read .ensures) (c .before .before .v .given .1) (c .code-of .ensures)
 
 pub yurgamysh-card-read-spec : {M : Type 1} → statement M
 yurgamysh-card-read-spec =

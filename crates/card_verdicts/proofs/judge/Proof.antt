@@ -30,20 +30,20 @@ returns : tie.Need-returns
 returns c =
     let s = now (c .before .before .before .before .before .args .s) in
     let h = subst (Judged (headAnswer s) s) (c .before .v .given .1) (c .before .before .before .heading .ensures) in
-    (head-refuses s _ (h .0) (h .1), h .1)
+    (head-refuses 8 s _ (h .0) (h .1), h .1)
 
 returns-2 : tie.Need-returns-2
 returns-2 c =
     let s = now (c .before .before .before .before .before .before .before .before .args .s) in
     let h = subst (Judged (headAnswer s) s) (c .before .before .before .before .n .given .1) (c .before .before .before .before .before .before .heading .ensures) in
     let v = c .before .before .matrices in
-    (matrices-decide s _ _ Done (h .0) (h .1 .states) (h .1 .observations) (sym (is-done (v .result) (sym (c .before .is-done .ensures) ∙ c .if1 .taken)) ∙ v .ensures), h .1)
+    (matrices-decide 8 s _ _ Done (h .0) (h .1 .states) (h .1 .observations) (sym (is-done (v .result) (sym (c .before .is-done .ensures) ∙ c .if1 .taken)) ∙ v .ensures), h .1)
 
 returns-3 : tie.Need-returns-3
 returns-3 c =
     let s = now (c .before .before .before .before .before .before .before .before .args .s) in
     let h = subst (Judged (headAnswer s) s) (c .before .before .before .before .n .given .1) (c .before .before .before .before .before .before .heading .ensures) in
-    (matrices-decide s _ _ _ (h .0) (h .1 .states) (h .1 .observations) (c .before .before .matrices .ensures), sym (c .before .is-done .ensures) ∙ c .if1 .left)
+    (matrices-decide 8 s _ _ _ (h .0) (h .1 .states) (h .1 .observations) (c .before .before .matrices .ensures), sym (c .before .is-done .ensures) ∙ c .if1 .left)
 
 pub judge-spec : {M : Type 1} → statement M
 judge-spec =

@@ -3,6 +3,7 @@ use mathlib.Core.Path.{_≡_, sym, subst, _∙_}
 use mathlib.Core.List.{List}
 use Prim.Native.Nat.{ℕ}
 use denote.Ref.{now}
+use lib.Ieee.{binary32}
 use Rattle.answers.specs.declared.Answer.the-variants.{Done}
 use Rattle.answers.proofs.Kept.{is-done, accepted}
 use Rattle.card_text.specs.Card.{cardAnswer}
@@ -40,14 +41,14 @@ write-requires c κs =
     let e = c .before .before .before .before .before .before .before .before in
     let j = judged e in
     let room = room-fits _ _ _ _ _ _ (accepted (c .before .before .before .before .before .before .room .ensures) (c .before .before .before .before .before .is-done .ensures) (c .before .before .before .before .if1 .taken)) in
-    (j .1 .here, lines-right (card e) _ _ (j .0) (j .1 .states) (j .1 .observations), room .0, room .1, room .2, room .3)
+    (j .1 .here, lines-right 8 (card e) _ _ (j .0) (j .1 .states) (j .1 .observations), room .0, room .1, room .2, room .3)
 
 returns : tie.Need-returns
 returns c =
     let a = c .before .before .before .before .before .before .before .before .before .args in
     let s = now (a .card) in
     let h = subst (Judged (cardAnswer 8 s) s) (c .before .v .given .1) (c .before .before .before .judge .ensures) in
-    refused s (now (a .a)) (now (a .q)) (now (a .h)) (now (a .r)) _ (card-decides s _ _ _ _ _ (h .0) (h .1)) (h .1)
+    refused binary32 8 s (now (a .a)) (now (a .q)) (now (a .h)) (now (a .r)) _ (card-decides 8 s _ _ _ _ _ (h .0) (h .1)) (h .1)
 
 same-length : tie.Need-same-length
 same-length c = search needs
@@ -68,8 +69,8 @@ returns-2 c =
     let v = c .before .before .before .before .before .before .before .before .before .before .before .before .before .before .before .room in
     let done = is-done (v .result) (sym (c .before .before .before .before .before .before .before .before .before .before .before .before .before .before .is-done .ensures) ∙ c .before .before .before .before .before .before .before .before .before .before .before .before .before .if1 .taken) in
     let w = c .before .before .before .before .before .before .before .before .write .ensures in
-    taken (now (a .card)) (now (a .a)) (now (a .q)) (now (a .h)) (now (a .r)) _ _ _ _ _ _ (j .1 .states) (j .1 .observations)
-    (room-decides (now (a .card)) _ _ (j .0) (j .1 .states) (j .1 .observations) _ _ _ _ Done (sym done ∙ v .ensures))
+    taken binary32 8 (now (a .card)) (now (a .a)) (now (a .q)) (now (a .h)) (now (a .r)) _ _ _ _ _ _ (j .1 .states) (j .1 .observations)
+    (room-decides 8 (now (a .card)) _ _ (j .0) (j .1 .states) (j .1 .observations) _ _ _ _ Done (sym done ∙ v .ensures))
     (w .0) (w .1 .0) (w .1 .1 .0) (w .1 .1 .1)
 
 returns-3 : tie.Need-returns-3
@@ -77,8 +78,8 @@ returns-3 c =
     let a = c .before .before .before .before .before .before .before .before .before .before .before .before .args in
     let j = judged (c .before .before .before .before) in
     let v = c .before .before .room in
-    refused (now (a .card)) (now (a .a)) (now (a .q)) (now (a .h)) (now (a .r)) (v .result)
-    (room-decides (now (a .card)) _ _ (j .0) (j .1 .states) (j .1 .observations) _ _ _ _ (v .result) (v .ensures)) (sym (c .before .is-done .ensures) ∙ c .if1 .left)
+    refused binary32 8 (now (a .card)) (now (a .a)) (now (a .q)) (now (a .h)) (now (a .r)) (v .result)
+    (room-decides 8 (now (a .card)) _ _ (j .0) (j .1 .states) (j .1 .observations) _ _ _ _ (v .result) (v .ensures)) (sym (c .before .is-done .ensures) ∙ c .if1 .left)
 
 pub read-spec : {M : Type 1} → statement M
 read-spec =

@@ -22,7 +22,7 @@ sub-if1 : tie.Need-sub-if1 Inv-loop μ-loop
 sub-if1 c = search needs
 
 returns : tie.Need-returns Inv-loop μ-loop
-returns c = let e = c .before .before in no-field (now (e .args .s)) (e .args .p) (e .args .end) (c .if1 .taken) (e .pre .1)
+returns c = let e = c .before .before in no-field 8 (now (e .args .s)) (e .args .p) (e .args .end) (c .if1 .taken) (e .pre .1)
 
 loop-holds : tie.Need-loop-holds Inv-loop μ-loop
 unfolding areDigits
@@ -66,13 +66,13 @@ returns-2 : tie.Need-returns-2 Inv-loop μ-loop
 returns-2 c =
     let a = c .before .before .before .before .before .before .args in
     let l = c .before .before .before .loop in
-    by-byte (now (a .s)) (a .p) (a .end) (l .i) (l .others) (omega arith) (l .inv .3) (c .before .if2 .taken)
+    by-byte 8 (now (a .s)) (a .p) (a .end) (l .i) (l .others) (omega arith) (l .inv .3) (c .before .if2 .taken)
 
 returns-3 : tie.Need-returns-3 Inv-loop μ-loop
 returns-3 c =
     let a = c .before .before .before .before .before .args in
     let l = c .before .before .loop in
-    by-other (now (a .s)) (a .p) (a .end) (l .i) (l .others) (omega arith) (l .inv .3) (c .if2 .left)
+    by-other 8 (now (a .s)) (a .p) (a .end) (l .i) (l .others) (omega arith) (l .inv .3) (c .if2 .left)
 
 pub field-at-spec : {M : Type 1} → statement M
 field-at-spec =

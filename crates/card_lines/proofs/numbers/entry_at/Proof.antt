@@ -23,7 +23,7 @@ unfolding speltFrom
 loop-holds c = (lit≤ tt, lit< tt, refl)
 
 mul-n : tie.Need-mul-n Inv-loop μ-loop
-mul-n c = let h = entry-room _ _ (c .loop-test .taken) (c .before .loop .inv .1) in omega arith
+mul-n c = let h = entry-room 8 _ _ (c .loop-test .taken) (c .before .loop .inv .1) in omega arith
 
 add-worth : tie.Need-add-worth Inv-loop μ-loop
 add-worth c = search needs
@@ -35,10 +35,10 @@ worth-requires : tie.Need-worth-requires Inv-loop μ-loop
 worth-requires c κs =
     let e = c .before .before .before .before in
     let l = c .before .before .loop in
-    a-digit (now (e .args .s)) (e .args .p) (e .pre .0) (e .pre .1) (l .i) (c .before .loop-test .taken)
+    a-digit 8 (now (e .args .s)) (e .args .p) (e .pre .0) (e .pre .1) (l .i) (c .before .loop-test .taken)
 
 add-n : tie.Need-add-n Inv-loop μ-loop
-add-n c = let e = c .before .before .before .before .before in let l = c .before .before .before .loop in let h = entry-fits (now (e .args .s)) (e .args .p) (e .pre .0) (e .pre .1) (l .i) (c .before .before .loop-test .taken) (l .n) _ (c .worth .ensures) (l .inv .1) in omega arith
+add-n c = let e = c .before .before .before .before .before in let l = c .before .before .before .loop in let h = entry-fits 8 (now (e .args .s)) (e .args .p) (e .pre .0) (e .pre .1) (l .i) (c .before .before .loop-test .taken) (l .n) _ (c .worth .ensures) (l .inv .1) in omega arith
 
 add-i : tie.Need-add-i Inv-loop μ-loop
 add-i c = search needs
@@ -49,10 +49,10 @@ loop-less c = search needs
 loop-again : tie.Need-loop-again Inv-loop μ-loop
 loop-again c =
     let e = c .before .before .before .before .before in let l = c .before .before .before .loop in
-    (search needs, entry-small (now (e .args .s)) (e .args .p) (e .pre .0) (e .pre .1) (l .i) (c .before .before .loop-test .taken) (l .n) _ (c .worth .ensures) (l .inv .1), entry-more (now (e .args .s)) (e .args .p) (e .pre .0) (e .pre .1) (l .i) (c .before .before .loop-test .taken) (l .n) _ (c .worth .ensures) (l .inv .1) (l .inv .2))
+    (search needs, entry-small 8 (now (e .args .s)) (e .args .p) (e .pre .0) (e .pre .1) (l .i) (c .before .before .loop-test .taken) (l .n) _ (c .worth .ensures) (l .inv .1), entry-more 8 (now (e .args .s)) (e .args .p) (e .pre .0) (e .pre .1) (l .i) (c .before .before .loop-test .taken) (l .n) _ (c .worth .ensures) (l .inv .1) (l .inv .2))
 
 returns : tie.Need-returns Inv-loop μ-loop
-returns c = let a = c .before .before .before .args in entry-whole (now (a .s)) (a .p) (c .before .loop .i) _ (omega arith) (c .before .loop .inv .2)
+returns c = let a = c .before .before .before .args in entry-whole 8 (now (a .s)) (a .p) (c .before .loop .i) _ (omega arith) (c .before .loop .inv .2)
 
 pub entry-at-spec : {M : Type 1} → statement M
 entry-at-spec =

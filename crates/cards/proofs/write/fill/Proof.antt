@@ -26,7 +26,7 @@ loop-holds c = (omega arith, omega arith, refl, refl)
 entry-at-requires : tie.Need-entry-at-requires Inv-loop μ-loop
 entry-at-requires c κs =
     let e = c .before .before .before .before in
-    ready (now (e .args .s)) (e .args .at) (e .args .k) (c .before .loop .i) (c .before .loop .p) (c .loop-test .taken) (c .before .loop .inv .1) (e .pre .0) (e .pre .1)
+    ready 8 (now (e .args .s)) (e .args .at) (e .args .k) (c .before .loop .i) (c .before .loop .p) (c .loop-test .taken) (c .before .loop .inv .1) (e .pre .0) (e .pre .1)
 
 float-of-requires : tie.Need-float-of-requires Inv-loop μ-loop
 float-of-requires c κs = tt
@@ -41,7 +41,7 @@ add-p : tie.Need-add-p Inv-loop μ-loop
 add-p c =
     let e = c .before .before .before .before .before .before in
     let l = c .before .before .before .loop in
-    omega (arith, behind (now (e .args .s)) (e .args .at) (e .args .k) (l .i) (l .p) (c .before .before .loop-test .taken) (l .inv .1) (e .pre .0) (e .pre .1))
+    omega (arith, behind 8 (now (e .args .s)) (e .args .at) (e .args .k) (l .i) (l .p) (c .before .before .loop-test .taken) (l .inv .1) (e .pre .0) (e .pre .1))
 
 add-i : tie.Need-add-i Inv-loop μ-loop
 add-i c = omega arith
@@ -56,7 +56,7 @@ loop-again c =
       omega arith,
       omega arith,
       length-set (l .into) (l .i) (c .float-of .result) ∙ l .inv .2,
-      filled (now (e .args .s)) (e .args .at) (e .args .k) (l .i) (l .p) (c .before .before .loop-test .taken) (l .inv .1) (c .before .entry-at .result) (c .float-of .result) (now (e .args .into)) (l .into) (c .before .entry-at .ensures) (c .float-of .ensures) (l .inv .3),
+      filled 8 (now (e .args .s)) (e .args .at) (e .args .k) (l .i) (l .p) (c .before .before .loop-test .taken) (l .inv .1) binary32 (c .before .entry-at .result) (c .float-of .result) (now (e .args .into)) (l .into) (c .before .entry-at .ensures) (c .float-of .ensures) (l .inv .3),
     )
 
 same-length : tie.Need-same-length Inv-loop μ-loop
