@@ -1,3 +1,4 @@
--- Laws of a card read for C: its two cases (Reading), and that its code says everything (Coded).
+-- Laws of a card read (Reading) and written (Writing) for C, by their two cases, and that their codes say everything (Coded).
 mod Reading
+mod Writing
 pub mod Coded

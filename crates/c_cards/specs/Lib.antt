@@ -1,2 +1,3 @@
--- The definitions that the contract cites.
+-- The definitions that the contracts cite: a card read into lent numbers (Into), and one written out of them (Out).
 pub mod Into
+pub mod Out

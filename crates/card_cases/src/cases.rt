@@ -90,7 +90,7 @@ fn edit_line(v: Cases, s: &[u8], put: bool, base: &[u8]) -> Tally {
     if f.next != s.len() {
         return bad(t);
     }
-    if f.differ == 0 {
+    if f.agrees() {
         return t.cards(f);
     }
     if t.told < 10 {

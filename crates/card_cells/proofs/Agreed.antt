@@ -1,5 +1,5 @@
 -- "0 differ" means that every number of a buffer agrees: with its word where the line has one, else with what it was lent with. Assumes nothing.
-use mathlib.Core.Path.{_≡_, refl, subst⁻¹}
+use mathlib.Core.Path.{_≡_, subst⁻¹}
 use mathlib.Core.Logic.{⊎-elim}
 use mathlib.Core.Bool.{Bool, true, false, cond}
 use mathlib.Core.List.{List}
@@ -11,16 +11,12 @@ use lib.Ieee.{Float, nan}
 use Rattle.lines.specs.Pattern.{bitsOf, sameBits}
 use Rattle.lines.specs.Word.{wordAt}
 use Rattle.lists.specs.declared.seen.Seen.{Seen}
-use Rattle.lists.specs.Seen.{metOf, floatMet}
-use Rattle.lists.proofs.Agreed.{counted, float-agreed}
+use Rattle.lists.specs.Seen.{floatMet}
+use Rattle.lists.proofs.Agreed.{met-agreed, float-agreed}
 use Rattle.card_cells.specs.Lent.{lentBits}
 use Rattle.card_cells.specs.Cells.{keptMet, cellMet, allMet}
 
 -- ---- one number
-met-agreed : (same : Bool) (o : Seen) (next b i want found : ℕ) → metOf same o next b i want found .differ ≡ 0 → (o .differ ≡ 0) × (same ≡ true)
-met-agreed true o next b i want found e = (e, refl)
-met-agreed false o next b i want found e = absurd (counted o next b i want found e)
-
 kept-agreed : (o : Seen) (b i : ℕ) (x : Float) → keptMet o b i x .differ ≡ 0 → (o .differ ≡ 0) × (sameBits (bitsOf x) (lentBits b i) ≡ true)
 unfolding keptMet
 kept-agreed o b i x e = met-agreed _ o _ b i _ _ e

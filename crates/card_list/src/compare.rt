@@ -1,4 +1,5 @@
-// A card that is read, compared with what a line expects.
+// A card that is read, and written again where it is taken, compared with what a line expects.
+use card_back::write_again;
 use card_cells::Lengths;
 use card_cells::cells_met;
 use card_cells::lend;
@@ -73,9 +74,24 @@ fn entries_at(s: &[u8], at: usize) -> Entries {
     }
 }
 
+// What comparing a card found: of reading it and, where the line expects that it is taken, of writing it
+// again.
+pub struct Compared {
+    pub read: Seen,
+    pub taken: bool,
+    pub back: Seen,
+}
+
+// Whether the words at a position expect a card that is taken.
+fn taken_at(s: &[u8], at: usize) -> bool {
+    let w = lines::word_at(s, at);
+    w.bits == 0
+}
+
 // Reads the card into buffers of these lengths: what the comparison with the words at a position
-// finds, of the code, of both sizes and of each number of the four buffers.
-pub fn compare(s: &[u8], at: usize, card: &[u8], l: Lengths) -> Seen {
+// finds, of the code, of both sizes and of each number of the four buffers. And where they expect that
+// it is taken, writes the matrices again: what that finds.
+pub fn compare(s: &[u8], at: usize, card: &[u8], l: Lengths) -> Compared {
     let lent_a = lend(0, l.a);
     let lent_q = lend(1, l.q);
     let lent_h = lend(2, l.h);
@@ -89,10 +105,24 @@ pub fn compare(s: &[u8], at: usize, card: &[u8], l: Lengths) -> Seen {
     let lh = lent_h.len;
     let lr = lent_r.len;
     let c = cards::read(card, &mut a[..la], &mut q[..lq], &mut h[..lh], &mut r[..lr]);
-    let o = said_met(s, at, said_by(c));
+    let d = said_by(c);
+    let o = said_met(s, at, d);
     let k = entries_at(s, at);
     let o1 = cells_met(s, o, 0, k.a, &a, la);
     let o2 = cells_met(s, o1, 1, k.a, &q, lq);
     let o3 = cells_met(s, o2, 2, k.h, &h, lh);
-    cells_met(s, o3, 3, k.r, &r, lr)
+    let read = cells_met(s, o3, 3, k.r, &r, lr);
+    if !taken_at(s, at) {
+        return Compared {
+            read: read,
+            taken: false,
+            back: seen::nothing(read.next),
+        };
+    }
+    let back = write_again(s, read.next, card, d.n, d.m, &a, &q, &h, &r, l);
+    Compared {
+        read: read,
+        taken: true,
+        back: back,
+    }
 }

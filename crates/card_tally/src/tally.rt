@@ -2,12 +2,15 @@
 use card_list::Found;
 use lists::seen::one_more;
 
-// How many lines were read, comments too; how many cards were read; how many differences there are, a
-// card that differs or a line that is bad; how many lines are bad; and how many lines were written of.
+// How many lines were read, comments too; how many cards were read, and how many differences there are, a
+// card that differs or a line that is bad; how many cards were written again, and how many of them differ;
+// how many lines are bad; and how many lines were told of.
 pub struct Tally {
     pub lines: u64,
     pub cards: u64,
     pub differ: u64,
+    pub written: u64,
+    pub unlike: u64,
     pub bad: u64,
     pub told: u64,
 }
@@ -18,6 +21,8 @@ pub fn empty() -> Tally {
         lines: 0,
         cards: 0,
         differ: 0,
+        written: 0,
+        unlike: 0,
         bad: 0,
         told: 0,
     }
@@ -49,12 +54,16 @@ impl Tally {
         t
     }
 
-    // One line more, whose cards were read.
+    // One line more, whose cards were read and written again.
     pub fn cards(self, f: Found) -> Tally {
+        let read = f.read;
+        let back = f.back;
         let mut t = self;
         t.lines = one_more(self.lines);
-        t.cards = plus(self.cards, f.cards);
-        t.differ = plus(self.differ, f.differ);
+        t.cards = plus(self.cards, read.cards);
+        t.differ = plus(self.differ, read.differ);
+        t.written = plus(self.written, back.cards);
+        t.unlike = plus(self.unlike, back.differ);
         t
     }
 

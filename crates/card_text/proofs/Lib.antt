@@ -12,3 +12,4 @@ pub mod SameLines
 pub mod Theorems
 pub mod Length
 pub mod Buffers
+pub mod Said

@@ -41,12 +41,12 @@ module _ (d : ℕ) where
       (ap (λ (l : List ℕ). e ∷ l) (say c es (h .1)))
 
   module _ (k : ℕ) (some : 1 ≤ k) where
-    -- The spelling of k patterns is k entries ..
-    pub entries-are : (es : List ℕ) → Patterns d k es → areEntries d k (entriesText d es) ≡ true
+    -- The spelling of k numbers is k entries ..
+    pub entries-are : (es : List ℕ) → length es ≡ k → areEntries d k (entriesText d es) ≡ true
     entries-are [] h = absurd (omega arith)
-    entries-are (e ∷ es) h = subst (λ (x : ℕ). areEntries d x (entriesText d (e ∷ es)) ≡ true) (h .0) (are e es)
+    entries-are (e ∷ es) h = subst (λ (x : ℕ). areEntries d x (entriesText d (e ∷ es)) ≡ true) h (are e es)
 
-    -- .. that say the patterns.
+    -- .. that say the numbers where these are patterns.
     pub entries-say : (es : List ℕ) → Patterns d k es → entriesIn d k (entriesText d es) ≡ es
     entries-say [] h = absurd (omega arith)
     entries-say (e ∷ es) h = subst (λ (x : ℕ). entriesIn d x (entriesText d (e ∷ es)) ≡ e ∷ es) (h .0) (say e es (h .1))
@@ -79,4 +79,4 @@ entries-patterns d (suc (suc k)) v e =
 
 -- A text is k entries exactly where it is the spelling of k patterns.
 pub entries-exactly : (d k : ℕ) (v : List ℕ) → 1 ≤ k → (areEntries d k v ≡ true) ↔ ((es : List ℕ) × Patterns d k es × (v ≡ entriesText d es))
-entries-exactly d k v some = (λ e. (entriesIn d k v, entries-patterns d k v e, entries-text d k v e), λ f. ap (areEntries d k) (f .2) ∙ entries-are d k some (f .0) (f .1))
+entries-exactly d k v some = (λ e. (entriesIn d k v, entries-patterns d k v e, entries-text d k v e), λ f. ap (areEntries d k) (f .2) ∙ entries-are d k some (f .0) (f .1 .0))

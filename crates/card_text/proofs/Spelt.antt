@@ -78,7 +78,7 @@ module _ (d : ℕ) (key : List ℕ) (es t : List ℕ) (k : ends key ≡ false) w
     -- it is such a line,
     pub entries-line : entriesLine d key n (line key (entriesText d es) t) ≡ true
     unfolding entriesLine
-    entries-line = rw (keyed-spelt key (entriesText d es) t k (entries-plain d es), value-spelt key (entriesText d es) t k (entries-plain d es)) (entries-are d n some es h)
+    entries-line = rw (keyed-spelt key (entriesText d es) t k (entries-plain d es), value-spelt key (entriesText d es) t k (entries-plain d es)) (entries-are d n some es (h .0))
 
     -- and says the patterns
     pub entries-of : entriesOf d key n (line key (entriesText d es) t) ≡ es

@@ -90,13 +90,13 @@ module _ (d : ℕ) (c : Settings) where
     observations = rw at2 (count-of observationsKey (c .m) behind3 refl m-small)
 
     -- there is an entry of each matrix
-    pub some-a : 1 ≤ c .n * c .n
+    some-a : 1 ≤ c .n * c .n
     some-a = mul-pos (sound .states-least) (sound .states-least)
 
-    pub some-h : 1 ≤ c .m * c .n
+    some-h : 1 ≤ c .m * c .n
     some-h = mul-pos (sound .observations-least) (sound .states-least)
 
-    pub some-r : 1 ≤ c .m * c .m
+    some-r : 1 ≤ c .m * c .m
     some-r = mul-pos (sound .observations-least) (sound .observations-least)
 
     -- each line is right, from the first on

@@ -84,3 +84,7 @@ countDigits n = cond (ltb n 10) 1 2
 
 abbrev pub entriesCount : ℕ → ℕ → ℕ
 entriesCount n m = n * n + n * n + m * n + m * m
+
+-- How long the card of n states and m observations is: 40 bytes of keys, newlines and the edition, the digits of both sizes, and d digits and one byte more for each entry
+unfoldable pub cardLength : ℕ → ℕ → ℕ → ℕ
+cardLength d n m = 40 + countDigits n + countDigits m + entriesCount n m * suc d

@@ -32,7 +32,7 @@ counted o next b i want found = at (eqb (o .differ) 0)
     at true e = more-than-none (o .differ) e
     at false e = more-than-none (o .differ) e
 
-met-agreed : (same : Bool) (o : Seen) (next b i want found : ℕ) → metOf same o next b i want found .differ ≡ 0 → (o .differ ≡ 0) × (same ≡ true)
+pub met-agreed : (same : Bool) (o : Seen) (next b i want found : ℕ) → metOf same o next b i want found .differ ≡ 0 → (o .differ ≡ 0) × (same ≡ true)
 met-agreed true o next b i want found e = (e, refl)
 met-agreed false o next b i want found e = absurd (counted o next b i want found e)
 

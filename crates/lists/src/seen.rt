@@ -106,7 +106,7 @@ pub fn whole_met(s: &[u8], o: Seen, buffer: usize, index: usize, n: usize) -> Se
 }
 
 // n where it has 32 bits, else the largest number that has.
-fn low(n: usize) -> u32
+pub fn low(n: usize) -> u32
     ensures { λ r. ⌜ r ≡ lowOf n ⌝ }
 {
     if n < 0x1_0000_0000 {

@@ -1,7 +1,7 @@
 -- The table of checked examples (R26) holds: one claim, by computation. Assumes nothing.
 use mathlib.Core.Path.{_≡_, refl}
 use mathlib.Core.Bool.{true}
-use lib.Ieee.{add, sub, mul, div, neg, lt, ofBits, toBits}
+use lib.Ieee.{add, sub, mul, div, neg, lt, ofBits, toBits, isNan}
 use Rattle.numbers.specs.Root.{sqrtOf}
 use Rattle.numbers.specs.Sums.{sumFrom}
 use Rattle.numbers.specs.Finite.{every}
@@ -15,9 +15,12 @@ use Rattle.lines.specs.Hex.{digitOf}
 use Rattle.card_text.specs.Lines.{ends, firstLine, behindLine, behindLines}
 use Rattle.card_text.specs.Values.{begins, isCount, numberIn, areDigits, speltFrom, isEntry, areEntries, entriesIn}
 use Rattle.card_text.specs.Card.{countLine, countOf, entriesLine, entriesOf, cardAnswer, readAnswer}
+use Rattle.card_text.specs.Spelling.{countText, entryText, entriesText, cardText, cardLength}
+use Rattle.card_text.specs.Said.{patterns}
+use Rattle.cards.specs.Written.{writeAnswer}
 use Rattle.promises.specs.Cards as cards
 use Rattle.promises.specs.Table.{table}
 
 pub checked : table ≡ true
-unfolding table predicted corrected each howMany every sqrtOf sumFrom run grid pivotTaken lessDot factor lastRecip firstNot plusSum solved back add sub mul div neg lt ofBits toBits digitOf ends firstLine behindLine behindLines begins isCount numberIn areDigits speltFrom isEntry areEntries entriesIn countLine countOf entriesLine entriesOf cardAnswer readAnswer cards.returns cards.cut
+unfolding table predicted corrected each howMany every sqrtOf sumFrom run grid pivotTaken lessDot factor lastRecip firstNot plusSum solved back add sub mul div neg lt ofBits toBits digitOf ends firstLine behindLine behindLines begins isCount numberIn areDigits speltFrom isEntry areEntries entriesIn countLine countOf entriesLine entriesOf cardAnswer readAnswer countText entryText entriesText cardText cardLength isNan patterns writeAnswer cards.returns cards.cut
 checked = refl

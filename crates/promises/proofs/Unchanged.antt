@@ -17,8 +17,10 @@ use Rattle.rows.specs.declared.Corrections.the-variants.{Refused}
 use Rattle.rows.specs.Rows.{PredictedRow, CorrectedRow}
 use Rattle.rows.proofs.Theorems.{refused-prediction-keeps, refused-row-keeps}
 use Rattle.cards.specs.declared.Card.the-variants as card
+use Rattle.cards.specs.declared.Written.the-variants as written
 use Rattle.cards.specs.Read.{CardRead}
-use Rattle.cards.proofs.Theorems.{refused-keeps}
+use Rattle.cards.specs.Written.{CardWritten}
+use Rattle.cards.proofs.Theorems.{refused-keeps, refused-keeps-bytes}
 
 -- the law: what goes by a refusal is as lent
 pub refused-leaves : {after : List Float} (v : Answer) (new old : List Float) → isDone v ≡ false → after ≡ settled v new old → after ≡ old
@@ -115,3 +117,6 @@ module _ (v : Answer) (no : isDone v ≡ false) where
   pub read-card-unchanged : {f : Format} {d : ℕ} {s : List ℕ} {a q h r a' q' h' r' : List Float} → CardRead f d s a q h r (card.Refused v) a' q' h' r'
       → (a' ≡ a) × (q' ≡ q) × (h' ≡ h) × (r' ≡ r)
   read-card-unchanged p = refused-keeps p v refl
+
+  pub write-card-unchanged : {f : Format} {d n m : ℕ} {a q h r : List Float} {b b' : List ℕ} → CardWritten f d n m a q h r b (written.Refused v) b' → b' ≡ b
+  write-card-unchanged p = refused-keeps-bytes p v refl

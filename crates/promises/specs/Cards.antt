@@ -1,10 +1,14 @@
--- Cards for the table of checked examples (R26, R34): texts byte by byte, and what they are answered with. Definitions only.
+-- Cards for the table of checked examples (R26, R34, R35): texts byte by byte, what they are answered with, and what is written. Definitions only.
 use mathlib.Core.Bool.{Bool, true, false, _&&_, cond}
 use mathlib.Core.List.{List, [], _∷_, _++_}
 use Prim.Native.Nat.{ℕ}
 use lib.Dec.{eqb}
+use lib.Ieee.{binary32, ofBits}
 use Rattle.answers.specs.Answers.{numberOf, carriedBy}
 use Rattle.card_text.specs.Card.{cardAnswer, readAnswer, statesOf, observationsOf, aOf, qOf, hOf, rOf}
+use Rattle.card_text.specs.Spelling.{cardText}
+use Rattle.card_text.specs.Said.{said}
+use Rattle.cards.specs.Written.{writeAnswer}
 
 -- ---- lines with the newline that ends them, byte by byte
 
@@ -63,6 +67,16 @@ capital = 51 ∷ 70 ∷ 56 ∷ 48 ∷ 48 ∷ 48 ∷ 48 ∷ 48 ∷ []
 abbrev pub comma : List ℕ
 comma = 51 ∷ 102 ∷ 56 ∷ 48 ∷ 48 ∷ 48 ∷ 48 ∷ 48 ∷ 44 ∷ []
 
+-- `7fc00000`, `80000000` and `7f800000`
+abbrev pub quietNan : List ℕ
+quietNan = 55 ∷ 102 ∷ 99 ∷ 48 ∷ 48 ∷ 48 ∷ 48 ∷ 48 ∷ []
+
+abbrev pub minusZero : List ℕ
+minusZero = 56 ∷ 48 ∷ 48 ∷ 48 ∷ 48 ∷ 48 ∷ 48 ∷ 48 ∷ []
+
+abbrev pub infinity : List ℕ
+infinity = 55 ∷ 102 ∷ 56 ∷ 48 ∷ 48 ∷ 48 ∷ 48 ∷ 48 ∷ []
+
 -- ---- texts
 
 -- lines one after the other
@@ -98,6 +112,10 @@ with2 v = lines (edition c1) (states v) (matrix 97 one)
 abbrev pub with4 : List ℕ → List ℕ
 with4 v = lines (edition c1) (states c1) (matrix 97 v)
 
+-- the card of one state and one observation with these entries
+abbrev pub cardOf : List ℕ → List ℕ → List ℕ → List ℕ → List ℕ
+cardOf a q h r = text (edition c1 ∷ states c1 ∷ observations c1 ∷ matrix 97 a ∷ matrix 113 q ∷ matrix 104 h ∷ matrix 114 r ∷ [])
+
 -- ---- answers
 
 -- the same numbers, and as many
@@ -122,3 +140,15 @@ unfoldable pub says : List ℕ → ℕ → ℕ → List ℕ → List ℕ → Lis
 unfolding equal
 says s n m a q h r =
     eqb (statesOf s) n && eqb (observationsOf s) m && equal (aOf 8 s) a && equal (qOf 8 s) q && equal (hOf 8 s) h && equal (rOf 8 s) r
+
+-- ---- what is written
+
+-- the card of one state and one observation with the numbers of these patterns is this text
+unfoldable pub writes : ℕ → ℕ → ℕ → ℕ → List ℕ → Bool
+unfolding equal
+writes a q h r t = equal (cardText 8 (said binary32 1 1 (ofBits binary32 a ∷ []) (ofBits binary32 q ∷ []) (ofBits binary32 h ∷ []) (ofBits binary32 r ∷ []))) t
+
+-- n states and m observations with buffers of so many numbers and bytes are answered with this number, which carries this
+unfoldable pub refuses : ℕ → ℕ → ℕ → ℕ → ℕ → ℕ → ℕ → ℕ → List ℕ → Bool
+unfolding equal
+refuses n m la lq lh lr lb number carried = let v = writeAnswer 8 n m la lq lh lr lb in equal (numberOf v ∷ carriedBy v) (number ∷ carried)

@@ -15,6 +15,7 @@ use Rattle.factors.specs.Inverse.{inverse}
 use Rattle.filters.specs.Prediction.{predictedX, tempP, predictedP}
 use Rattle.filters.specs.Correction.{innovationOf, residualOf, gainOf, newX, newP}
 use Rattle.filters.specs.Corrected.{finiteAnswer}
+use Rattle.card_text.specs.Spelling.{cardLength}
 use Rattle.one_state.specs.declared.OneState.{OneState}
 use Rattle.one_state.specs.OneState.{spread, gain, correctedX, correctedP, fresh, withBlind, predicted, corrected, answerOf, handedBack}
 use Rattle.rows.specs.declared.Corrections.{Corrections}
@@ -135,7 +136,7 @@ feeder = (0x3f800000, 0x40400000, 0)
 -- ---- the table
 
 unfoldable pub table : Bool
-unfolding has are leaves inverts tests says blinds corrects predicts judged judgedWith cards.says
+unfolding has are leaves inverts tests says blinds corrects predicts judged judgedWith cards.says cards.writes cards.refuses
 table =
     -- roots of 4 and 2
     has (sqrtOf binary32 (ofBits binary32 0x40800000)) 0x40000000
@@ -264,3 +265,17 @@ table =
     -- buffers of 1, 1, 0 and 0 numbers; the same for a card with a byte behind it
     && judgedWith cards.card 1 1 0 0 2 (2 ∷ [])
     && judgedWith (cards.card ++ (0 ∷ [])) 0 0 0 0 5 (8 ∷ [])
+    -- the card of one state, written of its numbers; one of NaN of two other patterns, −0 and +∞
+    && cards.writes 0x3f800000 0x3c800000 0x3f800000 0x3f800000 cards.card
+    && cards.writes 0xffc12345 0x80000000 0x7f800001 0x7f800000 (cards.cardOf cards.quietNan cards.minusZero cards.quietNan cards.infinity)
+    -- how long cards are: (1, 1), (9, 10), (10, 9) and (16, 16)
+    && eqb (cardLength 8 1 1) 78
+    && eqb (cardLength 8 9 10) 3211
+    && eqb (cardLength 8 10 9) 3382
+    && eqb (cardLength 8 16 16) 9260
+    -- 78 bytes, and 77; no byte, and no number of R; 17 observations, and 0 states with them
+    && cards.refuses 1 1 1 1 1 1 78 0 []
+    && cards.refuses 1 1 1 1 1 1 77 2 (4 ∷ [])
+    && cards.refuses 1 1 1 1 1 0 0 2 (3 ∷ [])
+    && cards.refuses 1 17 0 0 0 0 0 1 (1 ∷ [])
+    && cards.refuses 0 17 0 0 0 0 0 1 (0 ∷ [])

@@ -1,4 +1,4 @@
--- `read` meets its contract: a card that is refused stays so, else the room decides; where there is room the matrices are written. Assumes nothing.
+-- `read` meets its contract: a card that is refused stays so, else the room decides; where there is room the matrices are filled. Assumes nothing.
 use mathlib.Core.Path.{_≡_, sym, subst, _∙_}
 use mathlib.Core.List.{List}
 use Prim.Native.Nat.{ℕ}
@@ -36,8 +36,8 @@ room-requires c κs = search needs
 is-done-requires : tie.Need-is-done-requires
 is-done-requires c κs = search needs
 
-write-requires : tie.Need-write-requires
-write-requires c κs =
+fill-all-requires : tie.Need-fill-all-requires
+fill-all-requires c κs =
     let e = c .before .before .before .before .before .before .before .before in
     let j = judged e in
     let room = room-fits _ _ _ _ _ _ (accepted (c .before .before .before .before .before .before .room .ensures) (c .before .before .before .before .before .is-done .ensures) (c .before .before .before .before .if1 .taken)) in
@@ -68,7 +68,7 @@ returns-2 c =
     let j = judged (c .before .before .before .before .before .before .before .before .before .before .before .before .before .before .before .before .before) in
     let v = c .before .before .before .before .before .before .before .before .before .before .before .before .before .before .before .room in
     let done = is-done (v .result) (sym (c .before .before .before .before .before .before .before .before .before .before .before .before .before .before .is-done .ensures) ∙ c .before .before .before .before .before .before .before .before .before .before .before .before .before .if1 .taken) in
-    let w = c .before .before .before .before .before .before .before .before .write .ensures in
+    let w = c .before .before .before .before .before .before .before .before .fill-all .ensures in
     taken binary32 8 (now (a .card)) (now (a .a)) (now (a .q)) (now (a .h)) (now (a .r)) _ _ _ _ _ _ (j .1 .states) (j .1 .observations)
     (room-decides 8 (now (a .card)) _ _ (j .0) (j .1 .states) (j .1 .observations) _ _ _ _ Done (sym done ∙ v .ensures))
     (w .0) (w .1 .0) (w .1 .1 .0) (w .1 .1 .1)
@@ -90,7 +90,7 @@ read-spec =
     enum-known-n
     room-requires
     is-done-requires
-    write-requires
+    fill-all-requires
     returns
     same-length
     same-length-2

@@ -15,7 +15,7 @@ ghost use Rattle.cards.specs.Steps.{Right};
 use card_lines::entry_at;
 
 // Puts A, Q, H and R, of which the first line begins at the position, into the front of their buffers.
-pub fn write(
+pub fn fill_all(
     s: &[u8],
     at: usize,
     n: usize,

@@ -1,4 +1,4 @@
--- `write::write` meets its contract: each matrix stands behind its key, and the next line behind its entries (`proofs/Standing.antt`). Assumes nothing.
+-- `matrices::fill_all` meets its contract: each matrix stands behind its key, and the next line behind its entries (`proofs/Standing.antt`). Assumes nothing.
 use mathlib.Core.Path.{refl, ap, _∙_}
 use mathlib.Core.List.{List}
 use Prim.Native.Nat.{ℕ, _*_}
@@ -12,8 +12,8 @@ use Rattle.card_verdicts.specs.Verdicts.{Here}
 use Rattle.cards.specs.Read.{floats}
 use Rattle.cards.proofs.Standing.{key-within, fields-here, says-here, behind-here}
 use borrow.Author.Needs.{needs}
-use Rattle.cards.proofs.write.write.Statement.{statement}
-use Rattle.cards.proofs.write.write.Tie as tie
+use Rattle.cards.proofs.matrices.fill_all.Statement.{statement}
+use Rattle.cards.proofs.matrices.fill_all.Tie as tie
 
 -- line 5 begins where A's entries end
 here-q : (c : tie.After-fill) → Here (now (c .before .before .before .before .before .before .before .args .s)) (c .fill .result) 4
@@ -113,8 +113,8 @@ returns c =
       ),
     )
 
-pub write-spec : {M : Type 1} → statement M
-write-spec =
+pub fill-all-spec : {M : Type 1} → statement M
+fill-all-spec =
     tie.close
     (tie.spec
     add-fill

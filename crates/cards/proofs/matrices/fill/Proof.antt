@@ -1,4 +1,4 @@
--- `write::fill` meets its contract. The loop's invariant: the first i entries stand in the buffer, and p is where entry i begins. The measure is how many
+-- `matrices::fill` meets its contract. The loop's invariant: the first i entries stand in the buffer, and p is where entry i begins. The measure is how many
 -- are left. Assumes nothing.
 use mathlib.Core.Path.{_≡_, refl, ap, _∙_}
 use Prim.Native.Nat.{ℕ, _+_, _-_, _*_, _≤_}
@@ -10,8 +10,8 @@ use Rattle.grids.specs.Grid.{run}
 use Rattle.card_text.specs.Values.{entriesIn}
 use Rattle.cards.specs.Read.{floats}
 use Rattle.cards.proofs.Filling.{ready, behind, filled}
-use Rattle.cards.proofs.write.fill.Statement.{statement}
-use Rattle.cards.proofs.write.fill.Tie as tie
+use Rattle.cards.proofs.matrices.fill.Statement.{statement}
+use Rattle.cards.proofs.matrices.fill.Tie as tie
 
 abbrev Inv-loop : tie.InvT-loop
 Inv-loop s at k into₀ i₀ p₀ into i p = (i ≤ k) × (p ≡ at + i * 9) × (length into ≡ length into₀) × (into ≡ run 0 i (floats binary32 (entriesIn 8 k (drop at s))) into₀)
