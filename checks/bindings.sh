@@ -31,16 +31,17 @@ run() { # NAME COMMAND..
 # ---- the lists of functions
 
 # 'yurgamysh_get S,S,S,C,S,S,S,M': the kinds of the result and the parameters, S a size, C and M floats
-# that are read and written, F a float, B bytes that are read, Y yarns' records that are written, N the
-# counts of a row that are written, Z a size that is written, V nothing. A function that has a body in the
-# header is none of these.
+# that are read and written, F a float, B and W bytes that are read and written, Y yarns' records that are
+# written, N the counts of a row that are written, Z a size that is written, V nothing. A function that has
+# a body in the header is none of these.
 header_signatures() {
     tr '\n' ' ' <include/yurgamysh.h |
         sed 's|/\*[^*]*\*\{1,\}\([^/*][^*]*\*\{1,\}\)*/||g' |
         grep -oE '(size_t|float|void) yurgamysh_[a-z_]+\([^)]*\);' |
         sed -E 's/^(size_t|float|void) (yurgamysh_[a-z_]+)\((.*)\);$/\2 \1 r, \3/
             s/const float \*[a-z_]+/C/g; s/float \*[a-z_]+/M/g; s/yurgamysh_one_state \*[a-z_]+/Y/g
-            s/const uint8_t \*[a-z_]+/B/g; s/yurgamysh_counts \*[a-z_]+/N/g; s/size_t \*[a-z_]+/Z/g
+            s/const uint8_t \*[a-z_]+/B/g; s/uint8_t \*[a-z_]+/W/g
+            s/yurgamysh_counts \*[a-z_]+/N/g; s/size_t \*[a-z_]+/Z/g
             s/size_t [a-z_]+/S/g; s/float [a-z_]+/F/g; s/void [a-z_]+/V/g
             s/ +/ /g; s/, */,/g' | sort
 }
@@ -50,7 +51,8 @@ rust_signatures() {
         grep -oE 'fn yurgamysh_[a-z_]+\([^)]*\)( -> [a-z0-9]+)?;' |
         sed -E 's/\);$/) -> void;/; s/^fn (yurgamysh_[a-z_]+)\((.*)\) -> (.*);$/\1 r: \3, \2/
             s/[a-z_]+: \*const f32/C/g; s/[a-z_]+: \*mut f32/M/g; s/[a-z_]+: \*mut OneState/Y/g
-            s/[a-z_]+: \*const u8/B/g; s/[a-z_]+: \*mut Counts/N/g; s/[a-z_]+: \*mut usize/Z/g
+            s/[a-z_]+: \*const u8/B/g; s/[a-z_]+: \*mut u8/W/g
+            s/[a-z_]+: \*mut Counts/N/g; s/[a-z_]+: \*mut usize/Z/g
             s/[a-z_]+: usize/S/g; s/[a-z_]+: f32/F/g; s/[a-z_]+: void/V/g
             s/ +/ /g; s/, */,/g; s/,$//' | sort
 }
@@ -67,7 +69,7 @@ compare_lists() {
     {
         sed -n 's/^    ROW(\([a-z_]*\), .*/yurgamysh_\1/p' checks/c/calls.c
         grep -oE 'yurgamysh_feeders_[a-z]+' checks/c/feeders.c | sort -u
-        grep -oE 'yurgamysh_card_[a-z]+' checks/c/cards.c | sort -u
+        grep -ohE 'yurgamysh_card_[a-z]+' checks/c/cards.c checks/c/card_writing.c | sort -u
         echo yurgamysh_square_root
         echo yurgamysh_recip
     } | sort >"$out/tested"
@@ -101,8 +103,11 @@ feeder 7: 36.41 cN, blind 3
 feeder 10: 35.90 cN, blind 1'
 
 # What settings_card says, in C and in Rust.
-settings_card='line 2: states is missing or misspelt
+settings_card='line 2: states is missing or wrong
 x is [37 2], P is [4 2; 2 3]'
+
+# What card_back says, in C and in Rust.
+card_back='141 bytes read, and the same written'
 
 test_language() { # COMPILER WORDS..
     if ! has "$1"; then
@@ -112,8 +117,8 @@ test_language() { # COMPILER WORDS..
     header_alone "$@"
     # shellcheck disable=SC2086
     run "compiling the test, $*" "$@" -O1 $warnings -ffp-contract=off checks/c/bindings.c checks/c/calls.c \
-        checks/c/card_model.c checks/c/card_texts.c checks/c/cards.c checks/c/examples.c checks/c/feeders.c \
-        checks/c/inputs.c checks/c/model.c checks/c/room.c \
+        checks/c/card_model.c checks/c/card_texts.c checks/c/card_writing.c checks/c/cards.c checks/c/examples.c \
+        checks/c/feeders.c checks/c/inputs.c checks/c/model.c checks/c/room.c \
         -x none "$archive" -lm -o "$out/test" &&
         run "$*" "$out/test" && ok "$*: $(tail -n 1 "$out/said")"
     test_example one_yarn 'x is 4, P is 0.75' "$@"
@@ -124,6 +129,7 @@ test_language() { # COMPILER WORDS..
 36.03 cN, blind 0' "$@"
     test_example twelve_feeders "$twelve_feeders" "$@"
     test_example settings_card "$settings_card" "$@"
+    test_example card_back "$card_back" "$@"
 }
 
 # An example that README.md shows says this.
@@ -183,6 +189,7 @@ Err(Pivot(0))
 x is 4, P is -3'
     test_rust_example twelve_feeders "$twelve_feeders"
     test_rust_example settings_card "$settings_card"
+    test_rust_example card_back "$card_back"
     mkdir -p "$out/empty" "$out/other"
     refuses 'a missing archive is told, with the command that makes it' "$out/empty" 'sh lib/build.sh'
     : >"$out/other/libyurgamysh.a"
@@ -233,7 +240,9 @@ elif [ -f "$archive" ]; then
     shown checks/c/blind_feeder.c
     shown checks/c/twelve_feeders.c
     shown checks/c/settings_card.c
+    shown checks/c/card_back.c
     shown bindings/rust/examples/one_yarn.rs
+    shown bindings/rust/examples/card_back.rs
 else
     bad "there is no $archive: sh lib/build.sh makes it"
 fi

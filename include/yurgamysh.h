@@ -13,8 +13,8 @@
    - what the call writes (its pointer is not const) shares no memory with anything else that is lent
      to the same call; buffers that are only read may share;
    - `value` of yurgamysh_get points to one float, `yarn` to one record, `counts` to one
-     yurgamysh_counts, and `states` and `observations` to one size_t each, aligned as a size_t is,
-     always: NULL is not allowed there;
+     yurgamysh_counts, and `length`, and in yurgamysh_card_read `states` and `observations`, to one
+     size_t each, aligned as a size_t is, always: NULL is not allowed there;
    - the processor rounds to nearest and keeps subnormals, as it does when a program starts. Sums,
      products and quotients are its own instructions and follow its mode, so whoever set another one
      (MXCSR on x86-64, FPCR on Arm) puts it back before a call. Else other bits come; and with
@@ -29,7 +29,7 @@
    Stack that a call takes, its parameters included, as measured on x86-64: a prediction about 1.5 kB
    at every size, a correction 1.9 kB at n = m = 1 and 2.1 kB at n = m = 16. Half of it or more is room
    for one matrix, at every size. A call of the one-state record, or of a row of them, takes 0.1 kB, and
-   the reading of a card 0.3 kB. On Arm a prediction takes 1.4 kB, a correction 2.0 kB.
+   the reading or the writing of a card 0.3 kB. On Arm a prediction takes 1.4 kB, a correction 2.0 kB.
 
    The answer is one number: 0 where the call did its work, else 100 times the refusal's number plus
    what it carries. yurgamysh_answer_of and yurgamysh_carried_by take it apart.
@@ -37,8 +37,8 @@
      code      refusal               given exactly when                              leaves
      0         YURGAMYSH_DONE        none of the others is                           the results
      100 + k   YURGAMYSH_SIZE        size k is 0 or above 16, the first such         all as lent
-     200 + k   YURGAMYSH_SHORT       buffer k is shorter than its matrix, the first  all as lent
-                                     such
+     200 + k   YURGAMYSH_SHORT       buffer k is shorter than its matrix, or than    all as lent
+                                     the card to be written, the first such
      300 + k   YURGAMYSH_RANGE       the row (k = 0) or the column (k = 1) is not    all as lent
                                      below its size, the row first
      400 + i   YURGAMYSH_PIVOT       pivot i is not above zero, or not finite, NaN   see the function
@@ -54,8 +54,9 @@
    lent but the count of refusals: see its function. Of a row of feeders size 0 is how many they are,
    refused above 12 and not at 0; buffer 1, the readings, is refused where they are fewer than the
    feeders. A pivot, or what is not finite, refuses one feeder there and not the call: the code is 0,
-   and `counts` tells how many were accepted. A card is judged from its first line to its last, each of
-   its sizes at the line that says it, and then come the buffers: see its function.
+   and `counts` tells how many were accepted. A card that is read is judged from its first line to its
+   last, each of its sizes at the line that says it, and then come the buffers: see its function. Of one
+   that is written the bytes are buffer 4, behind the four matrices.
 
    Only corrections are tested for what is not finite: yurgamysh_correct, yurgamysh_update,
    yurgamysh_one_state_correct, and yurgamysh_feeders_correct feeder by feeder. One that is accepted
@@ -79,7 +80,9 @@ enum {
     YURGAMYSH_MAX_SIZE = 16,
     YURGAMYSH_MAX_CELLS = 256,
     /* The most feeders of a row. */
-    YURGAMYSH_MAX_FEEDERS = 12
+    YURGAMYSH_MAX_FEEDERS = 12,
+    /* The most bytes of a card: that of 16 states and 16 observations. */
+    YURGAMYSH_MAX_CARD = 9260
 };
 
 /* What a call says. */
@@ -275,7 +278,11 @@ size_t yurgamysh_feeders_correct(yurgamysh_one_state *feeders, size_t feeders_le
 
    A count is one decimal digit, or two of which the first is not 0. An entry is the pattern of one
    float in exactly eight hexadecimal digits, 0 to 9 and a to f, the highest first: 3f800000 is 1.
-   Entries stand row after row, with one comma between two of them. */
+   Entries stand row after row, with one comma between two of them.
+
+   How long a card is goes by n and m alone: 40 bytes, one for each digit of n and of m, and 9 for each
+   of its n*n + n*n + m*n + m*m entries. That of (1, 1) has 78 bytes, and that of (16, 16) has
+   YURGAMYSH_MAX_CARD, which are the most. */
 
 /* The card's matrices in the fronts of a, q, h and r, n in *states and m in *observations. The pattern
    of a NaN comes as a NaN, every other as its float: infinities and NaN are taken here. x and P are no
@@ -297,6 +304,34 @@ size_t yurgamysh_card_read(const uint8_t *card, size_t card_len,
                            float *h, size_t h_len,
                            float *r, size_t r_len,
                            size_t *states, size_t *observations);
+
+/* The card of so many states and observations, and of the matrices in the fronts of a, q, h and r: it
+   stands in the front of card, and its length in *length. It ends with the newline of line 7, with no
+   byte 0 behind it; what lies past it in card is never changed.
+
+   Each entry is the pattern of its float, so -0 is 80000000; but a NaN, whatever its sign and payload,
+   is 7fc00000. What is written here yurgamysh_card_read takes, and gives back both sizes and the same
+   floats, bit for bit, a NaN as a NaN. A card that was taken there is written again byte by byte, but
+   for 7fc00000 in the places of other NaN patterns.
+
+   Any refusal leaves every byte of card, and *length, as lent. They are tested in this order:
+   - YURGAMYSH_SIZE (100, 101): states, or observations, is not 1 to 16;
+   - YURGAMYSH_SHORT (200 to 203): this buffer is shorter than its matrix;
+   - YURGAMYSH_SHORT (204): card_len is below the card's length. Bytes that just hold it are enough.
+
+   Sizes: 0 states, 1 observations. Buffers: 0 a, 1 q, 2 h, 3 r, 4 card. */
+size_t yurgamysh_card_write(size_t states, size_t observations,
+                            const float *a, size_t a_len,
+                            const float *q, size_t q_len,
+                            const float *h, size_t h_len,
+                            const float *r, size_t r_len,
+                            uint8_t *card, size_t card_len,
+                            size_t *length);
+
+/* How long the card of so many states and observations is, in *length, which is written only where the
+   answer is 0. Refused are the sizes alone, YURGAMYSH_SIZE (100, 101). Sizes: 0 states,
+   1 observations. */
+size_t yurgamysh_card_length(size_t states, size_t observations, size_t *length);
 
 /* ---- Decomposition and inverse */
 

@@ -1,14 +1,15 @@
 /* Calls every function of include/yurgamysh.h through the archive, good input and each refusal, and
    compares the answer and every number lent with the rules (model.c): those of the matrices, those
    past them, and a marked stretch before each buffer. A row of feeders is compared so with the
-   calls of one record (feeders.c), and a settings card with the rules of cards (cards.c). Compiled
-   as C and as C++.
+   calls of one record (feeders.c), and a settings card with the rules of cards (cards.c for the
+   reader, card_writing.c for the writer). Compiled as C and as C++.
 
    Prints the first differences and a line of counts; exits with 1 where anything differs, or where
    a function was not seen to give each of its answers. */
 #include "../../include/yurgamysh.h"
 
 #include "calls.h"
+#include "card_writing.h"
 #include "cards.h"
 #include "examples.h"
 #include "feeders.h"
@@ -332,9 +333,10 @@ int main(void) {
     number_functions();
     failures += run_feeders(&calls, &numbers);
     failures += run_cards(&calls, &numbers);
+    failures += run_card_writing(&calls, &numbers);
     wrong = run_examples(&examples);
     failures += wrong;
     printf("%lu functions, %lu calls, %lu numbers compared, %lu examples: %lu failed\n",
-           (unsigned long)function_count + 5, calls, numbers, (unsigned long)examples, failures);
+           (unsigned long)function_count + 7, calls, numbers, (unsigned long)examples, failures);
     return failures != 0;
 }

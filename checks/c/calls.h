@@ -1,6 +1,6 @@
 /* The functions of the header as rows of a table: their sizes and buffers, and how they are called.
-   Those of one number, those over a row of feeders and the reader of cards are not here:
-   bindings.c, feeders.c and cards.c. */
+   Those of one number, those over a row of feeders and those of cards are not here: bindings.c,
+   feeders.c, cards.c and card_writing.c. */
 #ifndef CALLS_H
 #define CALLS_H
 

@@ -1,5 +1,7 @@
 #include "card_model.h"
 
+#include "room.h"
+
 #include <stdio.h>
 #include <string.h>
 
@@ -29,6 +31,35 @@ void model_spell(const struct settings *s, struct text *card) {
         }
         put(card, "\n");
     }
+}
+
+struct settings model_quiet(const struct settings *s) {
+    struct settings quiet = *s;
+    size_t k, i;
+    for (k = 0; k < MATRICES; k++)
+        for (i = 0; i < entries_of(s, k); i++)
+            if (is_nan_bits(s->entry[k][i]))
+                quiet.entry[k][i] = 0x7fc00000u;
+    return quiet;
+}
+
+size_t model_length(size_t n, size_t m) {
+    return 40 + (n < 10 ? 1 : 2) + (m < 10 ? 1 : 2) + 9 * (2 * n * n + m * n + m * m);
+}
+
+size_t model_write(const struct settings *s, const size_t *lengths, struct text *card) {
+    struct settings quiet;
+    size_t k;
+    if (s->n < 1 || s->n > 16)
+        return 100;
+    if (s->m < 1 || s->m > 16)
+        return 101;
+    for (k = 0; k < MATRICES; k++)
+        if (lengths[k] < entries_of(s, k))
+            return 200 + k;
+    quiet = model_quiet(s);
+    model_spell(&quiet, card);
+    return lengths[MATRICES] < card->len ? 200 + MATRICES : 0;
 }
 
 /* The bytes before the first newline; all of them where there is none. */

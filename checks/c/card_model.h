@@ -1,5 +1,5 @@
-/* The rules of settings cards in plain loops, both ways: how a card is spelt, and how one is judged
-   and read. */
+/* The rules of settings cards in plain loops, both ways: how a card is spelt and written, and how
+   one is judged and read. */
 #ifndef CARD_MODEL_H
 #define CARD_MODEL_H
 
@@ -25,6 +25,16 @@ size_t entries_of(const struct settings *s, size_t k);
 
 /* The card that says this. */
 void model_spell(const struct settings *s, struct text *card);
+
+/* The same settings with 7fc00000 in the place of every NaN: what is written of them. */
+struct settings model_quiet(const struct settings *s);
+
+/* How long the card of these sizes is, from 1 to 16. */
+size_t model_length(size_t n, size_t m);
+
+/* The code that the writing of this is answered with, by buffers of these lengths: those of the
+   four matrices, and last the bytes. Where it is 0, the card. */
+size_t model_write(const struct settings *s, const size_t *lengths, struct text *card);
 
 /* The code that a card by itself is answered with, the buffers being long enough; where it is 0,
    what the card says. */

@@ -521,6 +521,64 @@ static void cards(void) {
                    203, YURGAMYSH_SHORT, 3);
 }
 
+/* What a card is written into, with bytes to spare, and its length. */
+struct written_to {
+    char card[160];
+    size_t length;
+};
+
+/* The numbers of the card above, and NaN of another pattern, written into so many bytes of x. */
+static size_t write_card(size_t n, size_t m, size_t r_len, size_t card_len, struct written_to *to) {
+    const float a[] = {1, 2, -3, of_bits(0xffc12345u)};
+    const float q[] = {0.5f, -0.0f, ldexpf(1.0f, -149), INFINITY}, h[] = {4, 5}, r[] = {-6};
+    memset(to->card, 'x', sizeof to->card);
+    to->length = 77;
+    return yurgamysh_card_write(n, m, a, 4, q, 4, h, 2, r, r_len, (uint8_t *)to->card, card_len,
+                                &to->length);
+}
+
+/* The call is refused with this code, and nothing is written. */
+static void expect_unwritten(const char *name, size_t code, size_t want,
+                             const struct written_to *to) {
+    expect(name, code == want && to->card[0] == 'x' && to->length == 77 &&
+                     memcmp(to->card, to->card + 1, sizeof to->card - 1) == 0);
+}
+
+/* Asked how long the card of these sizes is, the library answers this code and leaves this. */
+static int measures(size_t n, size_t m, size_t code, size_t length) {
+    size_t found = 77;
+    return yurgamysh_card_length(n, m, &found) == code && found == length;
+}
+
+static void written_cards(void) {
+    const char *card = SIZES LINE_A LINE_Q LINE_H LINE_R;
+    const size_t length = 141;
+    struct read_into read = nothing_read;
+    struct written_to to, again;
+    expect("a card is written", write_card(2, 1, 1, sizeof to.card, &to) == 0);
+    expect("its length", to.length == length && strlen(card) == length);
+    expect("its bytes", memcmp(to.card, card, length) == 0);
+    expect("the bytes past it", to.card[length] == 'x' && to.card[159] == 'x' &&
+                                    memcmp(to.card + length, to.card + length + 1, 18) == 0);
+    to.card[length] = 0;
+    expect("it is read", read_card(to.card, &read) == 0);
+    expect("and written again",
+           yurgamysh_card_write(read.states, read.observations, read.a, 5, read.q, 5, read.h, 3,
+                                read.r, 2, (uint8_t *)again.card, sizeof again.card,
+                                &again.length) == 0 &&
+               again.length == length && memcmp(again.card, card, length) == 0);
+    expect("bytes that just hold it", write_card(2, 1, 1, length, &to) == 0 && to.length == length);
+    expect_unwritten("a byte too few", write_card(2, 1, 1, length - 1, &to), 204, &to);
+    expect_unwritten("no r and no bytes", write_card(2, 1, 0, 0, &to), 203, &to);
+    expect_unwritten("no observations", write_card(2, 0, 0, 0, &to), 101, &to);
+    expect_unwritten("17 states", write_card(17, 0, 0, 0, &to), 100, &to);
+    expect("the shortest card", measures(1, 1, 0, 78));
+    expect("the longest card", measures(16, 16, 0, 9260) && YURGAMYSH_MAX_CARD == 9260);
+    expect("ten states and nine observations", measures(10, 9, 0, 3382));
+    expect("no states have no card", measures(0, 17, 100, 77));
+    expect("nor have 17 observations", measures(1, 17, 101, 77));
+}
+
 static void products(void) {
     const float a[] = {-1}, b[] = {0}, minus_zero[] = {-0.0f}, zero[] = {0};
     float c[1];
@@ -545,6 +603,7 @@ size_t run_examples(size_t *count) {
     blind_feeders();
     a_row();
     cards();
+    written_cards();
     products();
     *count = made;
     return wrong;

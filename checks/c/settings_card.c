@@ -19,7 +19,7 @@ static int taken(const char *card) {
     size_t code = yurgamysh_card_read(bytes, strlen(card), a, 4, q, 4, h, 2, r, 1, &n, &m);
     size_t line = yurgamysh_carried_by(code);
     if (yurgamysh_answer_of(code) == YURGAMYSH_LINE)
-        printf("line %zu: %s is missing or misspelt\n", line, keys[line]);
+        printf("line %zu: %s is missing or wrong\n", line, keys[line]);
     else if (code != 0)
         printf("refused with %zu\n", code);
     return n == 2 && m == 1;

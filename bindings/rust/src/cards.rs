@@ -1,4 +1,4 @@
-//! Settings cards: a model as a text.
+//! Settings cards: a model as a text, read and written.
 
 use crate::{answer, sys, Filter, Observation, Refusal};
 use core::fmt;
@@ -130,17 +130,135 @@ fn sizes_of(card: &[u8]) -> Sizes {
     Sizes { states: count(), observations: count() }
 }
 
-/// Why a card gave no model. Its words tell a fitter what is wrong, and in which line.
+/// The card of so many states and observations and of these matrices, in the front of `card`: how long it is.
+///
+/// Each entry is the pattern of its number, so −0 is 80000000; a NaN, whatever its own pattern is, is
+/// 7fc00000. What lies past the card stays. [`card_length`] says how many bytes a card needs, and
+/// [`MAX_CARD`](crate::MAX_CARD) are enough for every one.
+///
+/// [`read_card`] takes what is written here, and gives back both sizes and the same numbers, bit for bit, a
+/// NaN as a NaN.
+///
+/// Sizes are states, observations; buffers are A, Q, H, R and last the bytes, which are `Short(4)` exactly
+/// where they are fewer than the card has. Any refusal leaves every byte as it is.
+///
+/// ```
+/// use yurgamysh::{write_card, Refusal};
+///
+/// let (a, q, h, r) = ([1.0], [-0.0], [0.5], [f32::NAN]);
+/// let mut card = [b'.'; 80];
+/// assert_eq!(write_card(1, 1, &a, &q, &h, &r, &mut card), Ok(78));
+/// assert_eq!(
+///     &card,
+///     b"edition=1\nstates=1\nobservations=1\na=3f800000\nq=80000000\nh=3f000000\nr=7fc00000\n.."
+/// );
+/// assert_eq!(write_card(1, 1, &a, &q, &h, &r, &mut card[..77]), Err(Refusal::Short(4)));
+/// ```
+pub fn write_card(
+    states: usize,
+    observations: usize,
+    a: &[f32],
+    q: &[f32],
+    h: &[f32],
+    r: &[f32],
+    card: &mut [u8],
+) -> Result<usize, Refusal> {
+    let mut length = 0;
+    // SAFETY: a slice is valid for its length, the one that is written overlaps no other, and the length is
+    // a number of its own.
+    answer(unsafe {
+        sys::yurgamysh_card_write(
+            states,
+            observations,
+            a.as_ptr(),
+            a.len(),
+            q.as_ptr(),
+            q.len(),
+            h.as_ptr(),
+            h.len(),
+            r.as_ptr(),
+            r.len(),
+            card.as_mut_ptr(),
+            card.len(),
+            &mut length,
+        )
+    })?;
+    Ok(length)
+}
+
+/// How long the card of so many states and observations is, n and m: 40 bytes, one for each digit of n and
+/// of m, and 9 for each of its n·n + n·n + m·n + m·m entries.
+///
+/// Sizes are states, observations; one that is not 1 to 16 is refused.
+///
+/// ```
+/// use yurgamysh::{card_length, Refusal, MAX_CARD};
+///
+/// assert_eq!(card_length(2, 1), Ok(40 + 1 + 1 + 9 * (4 + 4 + 2 + 1)));
+/// assert_eq!(card_length(16, 16), Ok(MAX_CARD));
+/// assert_eq!(card_length(2, 17), Err(Refusal::Size(1)));
+/// ```
+pub fn card_length(states: usize, observations: usize) -> Result<usize, Refusal> {
+    let mut length = 0;
+    // SAFETY: the length is a number of its own.
+    answer(unsafe { sys::yurgamysh_card_length(states, observations, &mut length) })?;
+    Ok(length)
+}
+
+/// The card of the filter's A and Q and the observation's H and R, in the front of `room`: these bytes of it.
+///
+/// What [`from_card`] made of a card is the same card again, byte by byte; only where it had another pattern
+/// of a NaN, 7fc00000 stands now. **The estimate x and its spread P are no part of a card**, nor are the
+/// readings.
+///
+/// One thing can be refused, since sizes and matrices fit by their types: `Short(4)`, where the room is
+/// shorter than the card, which leaves it as it is. [`MAX_CARD`](crate::MAX_CARD) bytes are always enough.
+///
+/// ```
+/// use yurgamysh::{from_card, to_card, CardError, MAX_CARD};
+///
+/// let card = b"edition=1\nstates=1\nobservations=1\na=3f800000\nq=00000000\nh=3f800000\nr=3f800000\n";
+/// let (mut filter, tension) = from_card::<1, 1>(card)?;
+/// let mut room = [0; MAX_CARD];
+/// assert_eq!(to_card(&filter, &tension, &mut room)?, card);
+///
+/// filter.direct_process_noise_mut()[0][0] = 0.5;
+/// let moved = to_card(&filter, &tension, &mut room)?;
+/// assert_eq!(moved.split(|byte| *byte == b'\n').nth(4), Some(&b"q=3f000000"[..]));
+///
+/// let error = to_card(&filter, &tension, &mut room[..77]).unwrap_err();
+/// assert_eq!(error.to_string(), "the buffer for the card is too short");
+/// # Ok::<(), CardError>(())
+/// ```
+pub fn to_card<'a, const N: usize, const M: usize>(
+    filter: &Filter<N>,
+    seen: &Observation<N, M>,
+    room: &'a mut [u8],
+) -> Result<&'a [u8], CardError> {
+    let length = write_card(
+        N,
+        M,
+        filter.state_transition().as_flattened(),
+        filter.direct_process_noise().as_flattened(),
+        seen.observation_matrix().as_flattened(),
+        seen.measurement_noise_covariance().as_flattened(),
+        room,
+    )?;
+    Ok(&room[..length])
+}
+
+/// Why a card gave no model, or a model no card. Its words tell a fitter what is wrong, and in which line.
 ///
 /// ```
 /// use yurgamysh::from_card;
 ///
 /// let error = from_card::<1, 1>(b"edition=1\nstates=1\nobservation=1\n").unwrap_err();
-/// assert_eq!(error.to_string(), "line 3: observations is missing or misspelt");
+/// assert_eq!(error.to_string(), "line 3: observations is missing or wrong");
 /// ```
 #[derive(Clone, Copy, Debug, PartialEq, Eq, Hash)]
 pub enum CardError {
-    /// The card is refused, or a buffer is too short for it.
+    /// The card is refused, or a buffer is too short for it: one that it is read into, or that it is written
+    /// into.
     Refused(Refusal),
     /// The card is right, and has other sizes than the filter and the observation that were asked for.
     OtherSizes {
@@ -162,8 +280,8 @@ impl fmt::Display for CardError {
         match *self {
             CardError::Refused(Refusal::Size(0)) => write!(f, "line 2: states is not 1 to 16"),
             CardError::Refused(Refusal::Size(1)) => write!(f, "line 3: observations is not 1 to 16"),
-            CardError::Refused(Refusal::Short(k)) if k < 4 => {
-                write!(f, "the buffer for {} is too short", ["a", "q", "h", "r"][k])
+            CardError::Refused(Refusal::Short(k)) if k < 5 => {
+                write!(f, "the buffer for {} is too short", ["a", "q", "h", "r", "the card"][k])
             }
             CardError::Refused(refusal) => refusal.fmt(f),
             CardError::OtherSizes { found, wanted } if found.states != wanted.states => {

@@ -16,7 +16,7 @@ mod refusal;
 mod sums;
 mod sys;
 
-pub use cards::{from_card, read_card, CardError, Sizes};
+pub use cards::{card_length, from_card, read_card, to_card, write_card, CardError, Sizes};
 pub use cells::*;
 pub use correction::{correct, innovation, update};
 pub use factors::{cholesky_decompose_lower, invert_l_cholesky};
@@ -36,3 +36,6 @@ pub const MAX_SIZE: usize = 16;
 
 /// The most feeders of a row.
 pub const MAX_FEEDERS: usize = 12;
+
+/// The most bytes of a card: that of 16 states and 16 observations.
+pub const MAX_CARD: usize = 9260;

@@ -8,8 +8,8 @@ pub enum Refusal {
     /// This size, the first such, is 0 or above 16, of a card one that it says; or there are more than 12
     /// feeders. Everything is as lent.
     Size(usize),
-    /// This buffer, the first such, is shorter than its matrix; or the readings are fewer than the feeders.
-    /// Everything is as lent.
+    /// This buffer, the first such, is shorter than its matrix, or than the card to be written; or the
+    /// readings are fewer than the feeders. Everything is as lent.
     Short(usize),
     /// The row (0) or the column (1) is not below its size. Everything is as lent.
     Range(usize),
@@ -55,7 +55,7 @@ fn wrong_line(k: usize, f: &mut fmt::Formatter<'_>) -> fmt::Result {
         7 => ("r", "observations*observations"),
         _ => return write!(f, "line {k}: something stands behind the last line"),
     };
-    write!(f, "line {k}: {key} is missing or misspelt")?;
+    write!(f, "line {k}: {key} is missing or wrong")?;
     if !entries.is_empty() {
         write!(f, ", or not followed by {entries} entries of eight digits and a newline")?;
     }

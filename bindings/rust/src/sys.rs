@@ -143,6 +143,22 @@ extern "C" {
         states: *mut usize,
         observations: *mut usize,
     ) -> usize;
+    pub fn yurgamysh_card_write(
+        states: usize,
+        observations: usize,
+        a: *const f32,
+        a_len: usize,
+        q: *const f32,
+        q_len: usize,
+        h: *const f32,
+        h_len: usize,
+        r: *const f32,
+        r_len: usize,
+        card: *mut u8,
+        card_len: usize,
+        length: *mut usize,
+    ) -> usize;
+    pub fn yurgamysh_card_length(states: usize, observations: usize, length: *mut usize) -> usize;
     pub fn yurgamysh_cholesky_decompose_lower(n: usize, t: *mut f32, t_len: usize) -> usize;
     pub fn yurgamysh_invert_l_cholesky(
         n: usize,

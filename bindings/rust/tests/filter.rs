@@ -415,7 +415,7 @@ fn refusals_in_words() {
         (Refusal::Range(0), "the row is out of range"),
         (Refusal::Range(1), "the column is out of range"),
         (Refusal::Pivot(2), "pivot 2 is not above zero, or not finite"),
-        (Refusal::Line(3), "line 3: observations is missing or misspelt"),
+        (Refusal::Line(3), "line 3: observations is missing or wrong"),
         (Refusal::Edition, "line 1: the edition is not 1"),
         (Refusal::NotFinite, "some entry of the new x or P is not finite"),
     ];

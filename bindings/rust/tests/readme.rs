@@ -26,8 +26,11 @@ fn no_line_is_hidden() {
 /// The examples that it shows are those that stand in examples/.
 #[test]
 fn the_examples_are_shown_as_they_are() {
-    let examples =
-        [include_str!("../examples/twelve_feeders.rs"), include_str!("../examples/settings_card.rs")];
+    let examples = [
+        include_str!("../examples/twelve_feeders.rs"),
+        include_str!("../examples/settings_card.rs"),
+        include_str!("../examples/card_back.rs"),
+    ];
     for example in examples {
         assert!(README.contains(&format!("\n```rust\n{example}```\n")));
     }
