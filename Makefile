@@ -1,6 +1,6 @@
 # The few commands that a person types. `compare` and `bench` want the place of the original's files in
 # MINIKALMAN_SRC.
-.PHONY: help kit demo prove test costs compare cards bench lib bindings
+.PHONY: help kit demo card prove test costs compare cards bench lib bindings
 .DEFAULT_GOAL := help
 
 help: ## these lines
@@ -14,6 +14,9 @@ demo: kit ## a feeder's shift, proved and run: a table of readings, estimates an
 	@echo
 	@cat target/log/demo.stdout
 
+card: kit ## the fitter's tool, proved: target/bin/card reads a settings card and prints it back, or what is wrong
+	@bash checks/quiet.sh target/card.log card
+
 prove: kit ## every crate that has changed, a line for each
 	@bash checks/quiet.sh target/prove.log
 
@@ -26,7 +29,7 @@ costs: ## what each crate and each edit cost in the last gate
 compare: kit ## the Rust's own answers, bit for bit, at scale (MINIKALMAN_SRC, rustc)
 	@bash oracle/compare.sh
 
-cards: kit ## settings cards by chance, read by the archive and by a second reader (rustc)
+cards: kit ## settings cards by chance, read and written by the archive and by a second reader and writer (rustc)
 	@sh checks/cards.sh
 
 bench: kit ## ours and the Rust, side by side, in nanoseconds (MINIKALMAN_SRC, rustc)

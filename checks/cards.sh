@@ -1,14 +1,15 @@
 #!/bin/sh
-# Compares the reader of settings cards with a second one (checks/cards/reader.rs), which is written from
-# rule R34 alone and in another manner:
+# Compares the reader and the writer of settings cards with second ones (checks/cards/reader.rs, writer.rs),
+# which are written from rules R34 and R35 alone and in another manner:
 #
-#   checks/cards.sh              on 10,000,000 cards by chance: 45 seconds
-#   checks/cards.sh COUNT        on so many
+#   checks/cards.sh              on 10,000,000 cards and 1,500,000 models by chance: 85 seconds
+#   checks/cards.sh COUNT        on so many cards, and three models for each twenty
 #   checks/cards.sh --list       writes the list that the gate replays: > crates/card_cases/stdin
 #
 # It builds the archive (lib/build.sh), or takes the one of the folder in YURGAMYSH_LIB, and links it with
-# checks/cards/fuzz.rs. The card and all that is lent lie beside pages that may not be touched. Some of the
-# cards are read once more under valgrind, in heap blocks of their length. And the list that stands in
+# checks/cards/fuzz.rs. Cards are read; models are written, what is written is read back, and their cards are
+# read and written again. The card and all that is lent lie beside pages that may not be touched. Some of it
+# is done once more under valgrind, in heap blocks of their length. And the list that stands in
 # crates/card_cases is compared with what --list writes. It needs rustc. Everything that it writes is
 # under target/. The exit status is 0 where nothing differs.
 set -eu
@@ -50,10 +51,10 @@ compare_list() {
     fi
 }
 
-compare_reader() { # COUNT
+compare_both() { # COUNT
     archive
     build fuzz -C link-arg="$folder/libyurgamysh.a"
-    "$out/fuzz" "$1" || status=1
+    "$out/fuzz" "$1" "$(($1 * 3 / 20))" || status=1
     if ! command -v valgrind >/dev/null; then
         echo 'cards: skipped, the cards under valgrind: no valgrind'
         return
@@ -61,7 +62,7 @@ compare_reader() { # COUNT
     few=$1
     [ "$few" -le "$under_valgrind" ] || few=$under_valgrind
     echo 'cards: under valgrind'
-    valgrind -q --error-exitcode=9 "$out/fuzz" "$few" --heap || status=1
+    valgrind -q --error-exitcode=9 "$out/fuzz" "$few" "$((few * 3 / 20))" --heap || status=1
 }
 
 root=$(CDPATH='' cd -- "$(dirname -- "$0")/.." && pwd -P)
@@ -78,7 +79,7 @@ case ${1:-} in
 *[!0-9]*) fail 'usage: checks/cards.sh [COUNT | --list]' ;;
 *)
     compare_list
-    compare_reader "${1:-10000000}"
+    compare_both "${1:-10000000}"
     ;;
 esac
 exit "$status"

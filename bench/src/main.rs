@@ -48,12 +48,12 @@ fn measure(plan: timing::Plan) -> Result<Vec<report::Figure>, String> {
 }
 
 fn cards(plan: timing::Plan) -> Result<Vec<report::Card>, String> {
-    let mut read = Vec::new();
-    cards::run::<1, 1, 1, 1, 1>(plan, &mut read)?;
-    cards::run::<4, 2, 16, 8, 4>(plan, &mut read)?;
-    cards::run::<9, 3, 81, 27, 9>(plan, &mut read)?;
-    cards::run::<16, 16, 256, 256, 256>(plan, &mut read)?;
-    Ok(read)
+    let mut cards = Vec::new();
+    cards::run::<1, 1, 1, 1, 1>(plan, &mut cards)?;
+    cards::run::<4, 2, 16, 8, 4>(plan, &mut cards)?;
+    cards::run::<9, 3, 81, 27, 9>(plan, &mut cards)?;
+    cards::run::<16, 16, 256, 256, 256>(plan, &mut cards)?;
+    Ok(cards)
 }
 
 /// Measures and prints; whether every bar of bench/README.md is met.

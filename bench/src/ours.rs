@@ -72,6 +72,21 @@ extern "C" {
         states: *mut usize,
         observations: *mut usize,
     ) -> usize;
+    fn yurgamysh_card_write(
+        states: usize,
+        observations: usize,
+        a: *const f32,
+        a_len: usize,
+        q: *const f32,
+        q_len: usize,
+        h: *const f32,
+        h_len: usize,
+        r: *const f32,
+        r_len: usize,
+        card: *mut u8,
+        card_len: usize,
+        length: *mut usize,
+    ) -> usize;
 }
 
 #[derive(Clone, Copy)]
@@ -275,7 +290,7 @@ pub fn feeders_correct(feeders: &mut [OneState], z: &[f32], counts: &mut Counts)
     }
 }
 
-/// What a card is read into.
+/// What a card is read into, and written from.
 pub struct Settings<const NN: usize, const MN: usize, const MM: usize> {
     pub states: usize,
     pub observations: usize,
@@ -298,7 +313,7 @@ impl<const NN: usize, const MN: usize, const MM: usize> Settings<NN, MN, MM> {
     }
 
     #[inline(always)]
-    pub fn card(&mut self, card: &[u8]) -> usize {
+    pub fn read(&mut self, card: &[u8]) -> usize {
         // SAFETY: a slice and arrays of their own, each with its length, and two numbers.
         unsafe {
             yurgamysh_card_read(
@@ -314,6 +329,28 @@ impl<const NN: usize, const MN: usize, const MM: usize> Settings<NN, MN, MM> {
                 MM,
                 &mut self.states,
                 &mut self.observations,
+            )
+        }
+    }
+
+    #[inline(always)]
+    pub fn write(&self, card: &mut [u8], length: &mut usize) -> usize {
+        // SAFETY: arrays and a slice of their own, each with its length, and a number.
+        unsafe {
+            yurgamysh_card_write(
+                self.states,
+                self.observations,
+                self.a.as_ptr(),
+                NN,
+                self.q.as_ptr(),
+                NN,
+                self.h.as_ptr(),
+                MN,
+                self.r.as_ptr(),
+                MM,
+                card.as_mut_ptr(),
+                card.len(),
+                length,
             )
         }
     }

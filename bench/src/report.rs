@@ -99,21 +99,29 @@ impl Row {
     }
 }
 
-/// A card that is read: its sizes, its bytes, and the times.
+/// A card that is read, and written: its sizes, its bytes, and the times of both.
 pub struct Card {
     n: usize,
     m: usize,
     bytes: usize,
-    times: Times,
+    read: Times,
+    written: Times,
 }
 
 impl Card {
-    pub fn of(n: usize, m: usize, bytes: usize, times: Times) -> Card {
-        Card { n, m, bytes, times }
+    pub fn of(n: usize, m: usize, bytes: usize, read: Times, written: Times) -> Card {
+        Card {
+            n,
+            m,
+            bytes,
+            read,
+            written,
+        }
     }
 
-    fn a_byte(&self) -> f64 {
-        self.times.median / self.bytes as f64
+    /// Nanoseconds a byte, of the reading or of the writing.
+    fn a_byte(&self, times: Times) -> f64 {
+        times.median / self.bytes as f64
     }
 }
 
@@ -157,17 +165,20 @@ pub fn rows(rows: &[Row]) {
 }
 
 pub fn cards(cards: &[Card]) {
-    println!("| card read | bytes | ns | ns, least | ns a byte |");
-    println!("|---|---|---|---|---|");
+    println!("| card | bytes | read, ns | read, ns, least | read, ns a byte | written, ns | written, ns, least | written, ns a byte |");
+    println!("|---|---|---|---|---|---|---|---|");
     for c in cards {
         println!(
-            "| ({}, {}) | {} | {:.1} | {:.1} | {:.2} |",
+            "| ({}, {}) | {} | {:.1} | {:.1} | {:.2} | {:.1} | {:.1} | {:.2} |",
             c.n,
             c.m,
             c.bytes,
-            c.times.median,
-            c.times.least,
-            c.a_byte()
+            c.read.median,
+            c.read.least,
+            c.a_byte(c.read),
+            c.written.median,
+            c.written.least,
+            c.a_byte(c.written)
         );
     }
 }
@@ -194,10 +205,12 @@ pub fn lines(figures: &[Figure], rows: &[Row], cards: &[Card]) -> String {
         );
     }
     for c in cards {
-        text += &format!(
-            "card ({}, {})\t{:.2}\t?\t?\t?\t?\n",
-            c.n, c.m, c.times.median
-        );
+        for (what, times) in [("read", c.read), ("written", c.written)] {
+            text += &format!(
+                "card {what} ({}, {})\t{:.2}\t?\t?\t?\t?\n",
+                c.n, c.m, times.median
+            );
+        }
     }
     text
 }
@@ -250,17 +263,23 @@ pub fn bars(figures: &[Figure], [_, correct, _]: &[Row; 3], cards: &[Card]) -> b
         correct.ratio() >= 0.98,
     );
     if let [_, small, .., largest] = cards {
-        let microseconds = largest.times.median / 1000.0;
+        let microseconds = largest.read.median / 1000.0;
         bar(
             "a card of (16, 16) read in less than 20 microseconds",
             microseconds,
             microseconds < 20.0,
         );
-        let times = largest.a_byte() / small.a_byte();
+        let times = largest.a_byte(largest.read) / small.a_byte(small.read);
         bar(
             "a byte of it at most 1.5 times one of a card of (4, 2)",
             times,
             times <= 1.5,
+        );
+        let microseconds = largest.written.median / 1000.0;
+        bar(
+            "a card of (16, 16) written in less than 10 microseconds",
+            microseconds,
+            microseconds < 10.0,
         );
     }
     all

@@ -58,17 +58,38 @@ const SPECIAL: [u32; 20] = [
     0x3c80_0000,
 ];
 
+/// One of them.
+pub fn special(by: &mut Chance) -> u32 {
+    by.of(&SPECIAL)
+}
+
 /// Any pattern, one in four a special one.
 pub fn pattern(by: &mut Chance) -> u32 {
     if by.once_in(4) {
-        by.of(&SPECIAL)
+        special(by)
     } else {
         by.next() as u32
     }
 }
 
+/// A NaN of any pattern: a sign by chance, and some digit below the exponent.
+pub fn nan(by: &mut Chance) -> u32 {
+    let digits = 1 + by.below(0x7f_ffff) as u32;
+    by.of(&[0x7f80_0000, 0xff80_0000]) + digits
+}
+
+/// A model of these sizes, of numbers that are made so.
+pub fn model_of(
+    states: usize,
+    observations: usize,
+    by: &mut Chance,
+    number: fn(&mut Chance) -> u32,
+) -> Model {
+    let matrices = entries(states, observations).map(|many| (0..many).map(|_| number(by)).collect());
+    Model { states, observations, matrices }
+}
+
 /// A model of these sizes.
 pub fn model(states: usize, observations: usize, by: &mut Chance) -> Model {
-    let matrices = entries(states, observations).map(|many| (0..many).map(|_| pattern(by)).collect());
-    Model { states, observations, matrices }
+    model_of(states, observations, by, pattern)
 }

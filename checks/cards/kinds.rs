@@ -1,7 +1,8 @@
 //! The kinds of cards in the list, but for the edits of single bytes.
 
-use crate::chance::{self, model, Chance};
+use crate::chance::{self, model, model_of, nan, Chance};
 use crate::reader::{entries, spelt, Model};
+use crate::writer::NAN;
 use crate::List;
 
 /// The lines of a card, each with its newline.
@@ -210,4 +211,54 @@ pub fn good(list: &mut List, n: usize, m: usize, by: &mut Chance) {
         list.cut(at, card.len() - at);
         list.cut(at, by.below(card.len() - at));
     }
+}
+
+/// Zeros, subnormal, ordinary and infinite numbers, and NaNs quiet and signalling with the least digits, the
+/// most and some between, of both signs.
+const NUMBERS: [u32; 32] = [
+    0x0000_0000,
+    0x8000_0000,
+    0x0000_0001,
+    0x8000_0001,
+    0x0012_3456,
+    0x8065_4321,
+    0x007f_ffff,
+    0x807f_ffff,
+    0x0080_0000,
+    0x8080_0000,
+    0x3f80_0000,
+    0xbf80_0000,
+    0x4049_0fdb,
+    0x7f7f_ffff,
+    0xff7f_ffff,
+    0x7f80_0000,
+    0xff80_0000,
+    0x7f80_0001,
+    0xff80_0001,
+    0x7fa5_a5a5,
+    0xffa0_0000,
+    0x7fbf_ffff,
+    0xffbf_ffff,
+    0x7fc0_0000,
+    0xffc0_0000,
+    0x7fc0_0001,
+    0xffc0_0001,
+    0x7fd5_5555,
+    0xffea_bcde,
+    0x7fff_ffff,
+    0xffff_ffff,
+    0x7fc0_0010,
+];
+
+/// Each of these in each matrix; and the largest card with a NaN in every place, of any pattern, and of
+/// the one that is written.
+pub fn numbers(list: &mut List, by: &mut Chance) {
+    list.room([1; 4]);
+    for k in 0..NUMBERS.len() {
+        let matrices = [0, 1, 2, 3].map(|i| vec![NUMBERS[(k + i) % NUMBERS.len()]]);
+        list.alone(&spelt(&Model { states: 1, observations: 1, matrices }));
+    }
+    list.room([256; 4]);
+    list.alone(&spelt(&model_of(16, 16, by, nan)));
+    list.alone(&spelt(&model_of(16, 16, by, |_| NAN)));
 }

@@ -1,6 +1,7 @@
 //! Memory that is lent to a call, with nothing that may be touched beside it: pages that no access is
 //! allowed to, or, for valgrind, heap blocks of exactly the length.
 
+use crate::chance::Chance;
 use std::ffi::c_void;
 use std::ptr::null_mut;
 
@@ -10,6 +11,9 @@ extern "C" {
     fn malloc(len: usize) -> *mut c_void;
     fn free(at: *mut c_void);
 }
+
+/// What a size or a length is lent with.
+pub const SIZE: usize = 0x5151_5151_5151_5151;
 
 const PAGE: usize = 4096;
 const READ_AND_WRITE: i32 = 3;
@@ -26,6 +30,17 @@ pub enum Side {
     End,
     Front,
     Heap,
+}
+
+impl Side {
+    /// One by chance: mostly the end; in the heap always that.
+    pub fn by(heap: bool, by: &mut Chance) -> Side {
+        match (heap, by.once_in(3)) {
+            (true, _) => Side::Heap,
+            (false, true) => Side::Front,
+            (false, false) => Side::End,
+        }
+    }
 }
 
 /// Some pages between two that are forbidden.

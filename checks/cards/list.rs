@@ -1,38 +1,56 @@
 //! Writes the list of cards that the program `card_cases` replays, with the answers of the second
-//! reader: crates/card_cases/src/main.rt says what a line holds. The same list in every run.
+//! reader and, of those that are taken, where the second writer writes them otherwise:
+//! crates/card_cases/src/main.rt says what a line holds. The same list in every run.
 
 mod chance;
 mod kinds;
 mod reader;
+mod writer;
 
 use chance::{model, Chance};
 use reader::{entries, read, spelt, Model};
 use std::fmt::Write;
+use writer::otherwise;
 
 const SEED: u64 = 34;
 
 /// What stands above the list.
-const HEAD: [&str; 7] = [
-    "Settings cards, and what reading them must find. Made by `sh checks/cards.sh --list`.",
+const HEAD: [&str; 8] = [
+    "Settings cards, and what reading and writing them must find. Made by `sh checks/cards.sh --list`.",
     "Each number is a word: a space and eight hexadecimal digits.",
     "c LENGTH BYTES..          the card from here on, four bytes to a word, the first highest",
     "b A Q H R                 the lengths of the buffers from here on",
     "x AT OUT WANT..           the card with OUT bytes taken out from position AT on",
     "p AT OUT LOW HIGH WANT..  and each byte from LOW to HIGH in their place, where OUT is 1 but for its own",
-    "WANT: the code and, where it is 0, both sizes and the patterns of A, Q, H and R.",
+    "WANT: the code and, where it is 0, both sizes, the patterns of A, Q, H and R, in how many places the card",
+    "that is written of them has 7fc00000 and this one another NaN, and the position of each.",
 ];
 
-/// The lines so far, and what they have set: the card and the lengths of the buffers.
+/// The lines so far, and what they have set: the card and the lengths of the buffers. How many cards are
+/// read, and how many of them are taken.
 struct List {
     text: String,
     card: Vec<u8>,
     room: [usize; 4],
     cards: usize,
+    taken: usize,
 }
 
 /// A word of a line: a space and eight digits.
 fn word(text: &mut String, number: usize) {
     write!(text, " {number:08x}").unwrap();
+}
+
+/// Where 7fc00000 stands once the card of this model is written again, and something else before. With
+/// that it is the second writer's card.
+fn places(card: &[u8], model: &Model) -> Vec<usize> {
+    let places = otherwise(card);
+    let mut again = card.to_vec();
+    places.iter().for_each(|at| again[*at..*at + 8].copy_from_slice(b"7fc00000"));
+    let [a, q, h, r] = &model.matrices;
+    let written = writer::write(model.states, model.observations, [a, q, h, r], card.len());
+    assert!(written == Ok(again), "two ways to write a card");
+    places
 }
 
 impl List {
@@ -68,12 +86,16 @@ impl List {
     }
 
     /// The words of what is expected of a card.
-    fn want(&mut self, said: &Result<Model, usize>) {
+    fn want(&mut self, card: &[u8], said: &Result<Model, usize>) {
         match said {
             Err(code) => word(&mut self.text, *code),
             Ok(model) => {
                 [0, model.states, model.observations].iter().for_each(|n| word(&mut self.text, *n));
                 model.matrices.iter().flatten().for_each(|bits| word(&mut self.text, *bits as usize));
+                let places = places(card, model);
+                word(&mut self.text, places.len());
+                places.iter().for_each(|at| word(&mut self.text, *at));
+                self.taken += 1;
             }
         }
         self.text.push('\n');
@@ -83,8 +105,9 @@ impl List {
     fn cut(&mut self, at: usize, out: usize) {
         self.text.push('x');
         [at, out].iter().for_each(|n| word(&mut self.text, *n));
-        let said = read(&self.edited(at, out, b""), self.room);
-        self.want(&said);
+        let card = self.edited(at, out, b"");
+        let said = read(&card, self.room);
+        self.want(&card, &said);
         self.cards += 1;
     }
 
@@ -108,7 +131,7 @@ impl List {
         for (low, high, said) in groups {
             self.text.push('p');
             [at, out, low as usize, high as usize].iter().for_each(|n| word(&mut self.text, *n));
-            self.want(&said);
+            self.want(&self.edited(at, out, &[low]), &said);
         }
     }
 
@@ -138,7 +161,7 @@ impl List {
 
 fn main() {
     let by = &mut Chance::new(SEED);
-    let list = &mut List { text: String::new(), card: Vec::new(), room: [usize::MAX; 4], cards: 0 };
+    let list = &mut List { text: String::new(), card: Vec::new(), room: [usize::MAX; 4], cards: 0, taken: 0 };
     for words in HEAD {
         list.comment(words);
     }
@@ -208,6 +231,14 @@ fn main() {
     ] {
         kinds::good(list, n, m, by);
     }
+    list.comment("Numbers of every kind.");
+    kinds::numbers(list, by);
     print!("{}", list.text);
-    eprintln!("{} lines, {} bytes, {} cards", list.text.lines().count(), list.text.len(), list.cards);
+    eprintln!(
+        "{} lines, {} bytes, {} cards, {} of them taken",
+        list.text.lines().count(),
+        list.text.len(),
+        list.cards,
+        list.taken
+    );
 }
