@@ -13,7 +13,7 @@ use Rattle.lists.specs.declared.seen.Seen.{Seen}
 use Rattle.lists.proofs.Agreed.{met-agreed}
 use Rattle.card_bytes.specs.Lent.{lentByte}
 use Rattle.card_bytes.specs.Bytes.{wantedByte, byteMet, bytesMet}
-use Rattle.card_bytes.specs.Written.{numberMet, writtenMet}
+use Rattle.card_bytes.specs.Written.{numberMet, writtenMet, Written, Left}
 
 -- ---- one
 pub byte-agreed : (o : Seen) (t : List ℕ) (i x : ℕ) → byteMet o t i x .differ ≡ 0 → (o .differ ≡ 0) × (wantedByte t i ≡ x)
@@ -53,18 +53,6 @@ module _ (o : Seen) (t l : List ℕ) where
   past-as-lent e i h below = sym (bytes-agreed (length l) e i below) ∙ rw (le-ltb i (length t) h)
 
 -- ---- what is said, and all of them
--- where the bytes are enough: 0, the length of the text, and the text in front of what was lent
-pub record Written (t : List ℕ) (code len : ℕ) (l : List ℕ) : Type 0 where
-  pub done : 0 ≡ code
-  pub long : length t ≡ len
-  pub front : take (length t) l ≡ t
-  pub past : (i : ℕ) → length t ≤ i → i < length l → getD l i 0 ≡ lentByte i
-
--- where they are too few: 204, and every byte as it was lent
-pub record Left (code : ℕ) (l : List ℕ) : Type 0 where
-  pub refused : 204 ≡ code
-  pub all : (i : ℕ) → i < length l → getD l i 0 ≡ lentByte i
-
 module _ (o : Seen) (t : List ℕ) (code len : ℕ) (l : List ℕ) (none : writtenMet o t code len l .differ ≡ 0) where
   pub written-agreed : length t ≤ length l → Written t code len l
   unfolding writtenMet

@@ -1,7 +1,4 @@
--- Laws of the bytes that are put: one text behind another (Laid), digits (Digits) and entries (Entering), lines (Lining) and a card (Carded); room for its lines (Room).
-mod Laid
-mod Digits
-mod Entering
+-- Laws of the lines that are put: one line behind another (Lining), a card (Carded), and room for its lines (Room).
 mod Lining
 mod Carded
 mod Room

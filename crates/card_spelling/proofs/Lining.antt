@@ -12,8 +12,8 @@ use Rattle.card_text.specs.Lines.{newline}
 use Rattle.card_text.specs.Spelling.{countText, countDigits, entriesText, line}
 use Rattle.card_text.specs.Said.{patterns}
 use Rattle.card_text.proofs.Length.{count-length, line-length}
-use Rattle.card_spelling.proofs.Laid.{then-text}
-use Rattle.card_spelling.proofs.Entering.{entries-bytes}
+use Rattle.card_fields.proofs.Laid.{then-text}
+use Rattle.card_fields.proofs.Entering.{entries-bytes}
 
 -- ---- a line of a count: behind the key one digit or two, and the newline
 

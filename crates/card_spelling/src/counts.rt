@@ -5,7 +5,7 @@ ghost use Prim.Native.Nat.{suc, _+_, _≤_, _<_};
 ghost use lib.ListN.{length};
 ghost use lib.Seq.{sets};
 ghost use Rattle.card_text.specs.Spelling.{countText, countDigits, line};
-use crate::bytes::put_bytes;
+use card_fields::put_bytes;
 
 // Puts the line of the key and the number there, a newline at its end.
 pub fn put_count_line(into: &mut [u8], at: usize, key: &[u8], n: usize) -> usize

@@ -5,7 +5,7 @@ ghost use lib.ListN.{length};
 ghost use lib.Seq.{sets};
 ghost use Rattle.card_words.specs.Words.{lineWords, sizeWords, wordsOf};
 use answers::Answer;
-use card_spelling::put_bytes;
+use card_fields::put_bytes;
 
 // Puts the words for the refusal into the front of the buffer: how many bytes they have.
 pub fn put_words(out: &mut [u8], v: Answer) -> usize

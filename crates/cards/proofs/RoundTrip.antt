@@ -53,7 +53,8 @@ module _ {f : Format} {d n m l : ℕ} {a q h r : List Float} {b b' : List ℕ} (
   pub written-length : l ≡ cardLength d n m
   written-length = measured-length v l (cardLength d n m) (w .answer) .1
 
-  pub fits : Fits d n m (length a) (length q) (length h) (length r) (length b)
+  -- every size and buffer was as it must be
+  fits : Fits d n m (length a) (length q) (length h) (length r) (length b)
   fits = write-fits d n m (length a) (length q) (length h) (length r) (length b) done
 
   text-long : length (cardText d (said f n m a q h r)) ≡ l

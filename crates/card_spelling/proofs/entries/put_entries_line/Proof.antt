@@ -2,7 +2,7 @@
 use native.Mathlib.Omega.{arith}
 use borrow.Author.Needs.{needs}
 use denote.Ref.{now}
-use Rattle.card_spelling.proofs.Laid.{then-text}
+use Rattle.card_fields.proofs.Laid.{then-text}
 use Rattle.card_spelling.proofs.entries.put_entries_line.Statement.{statement}
 use Rattle.card_spelling.proofs.entries.put_entries_line.Tie as tie
 

@@ -1,8 +1,8 @@
 -- `fields::digit` meets its contract, by `proofs/Digits.antt`. Assumes nothing.
 use borrow.Author.Needs.{needs}
-use Rattle.card_spelling.proofs.Digits.{digit-is}
-use Rattle.card_spelling.proofs.fields.digit.Statement.{statement}
-use Rattle.card_spelling.proofs.fields.digit.Tie as tie
+use Rattle.card_fields.proofs.Digits.{digit-is}
+use Rattle.card_fields.proofs.fields.digit.Statement.{statement}
+use Rattle.card_fields.proofs.fields.digit.Tie as tie
 
 add-result : tie.Need-add-result
 add-result c = search needs

@@ -8,9 +8,9 @@ use lib.ListN.{length}
 use lib.Seq.{sets}
 use lib.Ieee.{binary32}
 use Rattle.card_text.specs.Said.{patterns}
-use Rattle.card_spelling.proofs.Entering.{ready, turn, last}
-use Rattle.card_spelling.proofs.entries.put_entries.Statement.{statement}
-use Rattle.card_spelling.proofs.entries.put_entries.Tie as tie
+use Rattle.card_fields.proofs.Entering.{ready, turn, last}
+use Rattle.card_fields.proofs.entries.put_entries.Statement.{statement}
+use Rattle.card_fields.proofs.entries.put_entries.Tie as tie
 
 abbrev Inv-loop : tie.InvT-loop
 Inv-loop into₀ at x k p₀ i₀ into p i = (1 ≤ i) × (i ≤ k) × (p ≡ at + (i - 1) * 9) × (length into ≡ length into₀) × (into ≡ sets into₀ at (ready 8 (patterns binary32 (i - 1) x)))

@@ -2,9 +2,9 @@
 use native.Mathlib.Omega.{arith}
 use denote.Ref.{now}
 use lib.ListN.{length-set}
-use Rattle.card_spelling.proofs.Digits.{eight}
-use Rattle.card_spelling.proofs.fields.put_field.Statement.{statement}
-use Rattle.card_spelling.proofs.fields.put_field.Tie as tie
+use Rattle.card_fields.proofs.Digits.{eight}
+use Rattle.card_fields.proofs.fields.put_field.Statement.{statement}
+use Rattle.card_fields.proofs.fields.put_field.Tie as tie
 
 digit-requires : tie.Need-digit-requires
 digit-requires c κs = omega arith

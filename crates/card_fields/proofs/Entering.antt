@@ -17,7 +17,7 @@ use Rattle.card_text.proofs.Entries.{entries-length}
 use Rattle.card_text.proofs.Digits.{entry-length}
 use Rattle.card_text.proofs.Patterns.{entries-are}
 use Rattle.card_text.proofs.Said.{patterns-length, patterns-more}
-use Rattle.card_spelling.proofs.Laid.{then-text}
+use Rattle.card_fields.proofs.Laid.{then-text}
 
 -- ---- the text
 

@@ -6,9 +6,9 @@ use borrow.Author.Needs.{needs}
 use denote.Ref.{now}
 use lib.ListN.{length, take, length-set}
 use lib.Seq.{sets, take-length}
-use Rattle.card_spelling.proofs.Laid.{copied}
-use Rattle.card_spelling.proofs.bytes.put_bytes.Statement.{statement}
-use Rattle.card_spelling.proofs.bytes.put_bytes.Tie as tie
+use Rattle.card_fields.proofs.Laid.{copied}
+use Rattle.card_fields.proofs.bytes.put_bytes.Statement.{statement}
+use Rattle.card_fields.proofs.bytes.put_bytes.Tie as tie
 
 abbrev Inv-loop : tie.InvT-loop
 Inv-loop into₀ at bytes i₀ into i = (i ≤ length bytes) × (length into ≡ length into₀) × (into ≡ sets into₀ at (take i bytes))
