@@ -2,7 +2,7 @@
 # Compares the reader and the writer of settings cards with second ones (checks/cards/reader.rs, writer.rs),
 # which are written from rules R34 and R35 alone and in another manner:
 #
-#   checks/cards.sh              on 10,000,000 cards and 1,500,000 models by chance: 85 seconds
+#   checks/cards.sh              on 10,000,000 cards and 1,500,000 models by chance: 90 seconds
 #   checks/cards.sh COUNT        on so many cards, and three models for each twenty
 #   checks/cards.sh --list       writes the list that the gate replays: > crates/card_cases/stdin
 #

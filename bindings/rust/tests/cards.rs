@@ -375,3 +375,20 @@ fn sizes_in_words() {
     assert_eq!(told((2, 3), (2, 1)), "the card has 3 observations, this filter 1");
     assert_eq!(told((2, 1), (2, 16)), "the card has 1 observation, this filter 16");
 }
+
+/// The fitter's tool has the same words: each stands, quoted, in its definition, where this crate stands in
+/// its repository.
+#[test]
+fn the_tool_has_the_same_words() {
+    let place = concat!(env!("CARGO_MANIFEST_DIR"), "/../../crates/card_words/specs/Words.antt");
+    let Ok(definition) = std::fs::read_to_string(place) else {
+        return;
+    };
+    let others = [Refusal::Edition, Refusal::Size(0), Refusal::Size(1)];
+    let refusals: Vec<Refusal> = (1..=8).map(Refusal::Line).chain(others).collect();
+    for refusal in &refusals {
+        let words = format!("bytesOf \"{}\\n\"", CardError::from(*refusal));
+        assert!(definition.contains(&words), "{words}");
+    }
+    assert_eq!(definition.matches("bytesOf \"").count(), refusals.len());
+}
