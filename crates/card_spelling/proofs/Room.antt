@@ -1,9 +1,10 @@
 -- Room for a card, line by line: where there is room for what is left, there is room for the next line, and behind it for the rest. Assumes nothing.
 use mathlib.Core.Path.{_≡_}
 use Prim.Native.Nat.{ℕ, suc, _+_, _*_, _≤_}
-use native.Mathlib.Nat.{mul-pos, mul-le-mul}
+use native.Mathlib.Nat.{mul-pos}
 use native.Mathlib.Omega.{arith}
 use Rattle.card_text.specs.Spelling.{countDigits, cardLength}
+use Rattle.card_text.proofs.Length.{squares}
 
 -- ---- a line of some bytes, and the rest
 
@@ -42,4 +43,4 @@ module _ (d n m : ℕ) where
 
 -- ---- how many entries a matrix has at least and at most
 pub entries-few : (n m : ℕ) → 1 ≤ n → n ≤ 16 → 1 ≤ m → m ≤ 16 → (1 ≤ n * n) × (n * n ≤ 256) × (1 ≤ m * n) × (m * n ≤ 256) × (1 ≤ m * m) × (m * m ≤ 256)
-entries-few n m ln hn lm hm = (mul-pos ln ln, mul-le-mul hn hn, mul-pos lm ln, mul-le-mul hm hn, mul-pos lm lm, mul-le-mul hm hm)
+entries-few n m ln hn lm hm = let most = squares n m hn hm in (mul-pos ln ln, most .0, mul-pos lm ln, most .1, mul-pos lm lm, most .2)

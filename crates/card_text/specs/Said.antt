@@ -39,11 +39,11 @@ saidAgain f c = record {
   r = map (quieted f) (c .r);
 }
 
--- the patterns have that one only where they are a NaN's
+-- every pattern of a NaN among these is that one
 abbrev pub OneNan : Format → List ℕ → Type 0
 OneNan f es = (i : ℕ) → nanBits f (getD es i 0) ≡ true → getD es i 0 ≡ quiet f
 
--- all four matrices have
+-- so it is in all four matrices
 pub record OneNanOnly (f : Format) (c : Settings) : Type 0 where
   pub one-a : OneNan f (c .a)
   pub one-q : OneNan f (c .q)

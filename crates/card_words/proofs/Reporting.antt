@@ -5,11 +5,10 @@ use mathlib.Core.List.{List, _++_}
 use Prim.Native.Nat.{ℕ, suc, _+_, _*_, _^_, _≤_}
 use native.Mathlib.Nat.{zero-add}
 use native.Mathlib.Omega.{arith}
-use lib.Dec.{ltb}
 use lib.ListN.{length, take, drop, take-append-drop}
 use lib.Seq.{sets, sets-eq}
 use lib.Ieee.{Float, Format, top}
-use borrow.Author.Tests.{le-leb, le-ltb}
+use borrow.Author.Tests.{le-ltb}
 use Rattle.answers.specs.declared.Answer.{Answer}
 use Rattle.answers.specs.declared.Answer.the-variants.{Done}
 use Rattle.answers.specs.Answers.{isDone}
@@ -18,14 +17,14 @@ use Rattle.card_text.specs.Card.{statesOf, observationsOf, cardAnswer, readAnsw
 use Rattle.card_text.specs.Spelling.{Sound, held, cardLength}
 use Rattle.card_text.proofs.Theorems.{taken-sound}
 use Rattle.card_text.proofs.Length.{squares, length-at-most}
-use Rattle.card_text.proofs.Buffers.{card-first, then-buffers}
+use Rattle.card_text.proofs.Buffers.{card-first, right-taken}
 use Rattle.cards.specs.declared.Card.{Card}
 use Rattle.cards.specs.declared.Card.the-variants.{Sizes, Refused}
 use Rattle.cards.specs.declared.Written.{Written}
 use Rattle.cards.specs.declared.Written.the-variants.{Length}
 use Rattle.cards.specs.Read.{CardRead}
 use Rattle.cards.specs.Written.{writeAnswer, CardWritten}
-use Rattle.cards.proofs.Theorems.{told-refused, told-sizes, measured-refused}
+use Rattle.cards.proofs.Theorems.{told-refused, told-sizes, bytes-alone, measured-refused}
 use Rattle.cards.proofs.RoundTrip.{written-again, past-written, as-long}
 use Rattle.card_words.specs.Words.{wordsOf}
 use Rattle.card_words.specs.Report.{reportOf}
@@ -60,28 +59,13 @@ module _ (d : ℕ) (s : List ℕ) (la lq lh lr : ℕ) (a-room : 256 ≤ la) (q-r
     few : (statesOf s * statesOf s ≤ 256) × (observationsOf s * statesOf s ≤ 256) × (observationsOf s * observationsOf s ≤ 256)
     few = squares (statesOf s) (observationsOf s) (sound .states-most) (sound .observations-most)
 
-    a-held : ltb la (statesOf s * statesOf s) ≡ false
-    a-held = le-ltb la (statesOf s * statesOf s) (omega (arith, few))
-
-    q-held : ltb lq (statesOf s * statesOf s) ≡ false
-    q-held = le-ltb lq (statesOf s * statesOf s) (omega (arith, few))
-
-    h-held : ltb lh (observationsOf s * statesOf s) ≡ false
-    h-held = le-ltb lh (observationsOf s * statesOf s) (omega (arith, few))
-
-    r-held : ltb lr (observationsOf s * observationsOf s) ≡ false
-    r-held = le-ltb lr (observationsOf s * observationsOf s) (omega (arith, few))
-
     read-done : readAnswer d s la lq lh lr ≡ Done
-    read-done = then-buffers d s la lq lh lr done ∙ rw (a-held, q-held, h-held, r-held)
-
-    b-held : (lb : ℕ) → 44 + 1024 * suc d ≤ lb → ltb lb (cardLength d (statesOf s) (observationsOf s)) ≡ false
-    b-held lb h = le-ltb lb (cardLength d (statesOf s) (observationsOf s)) (omega (arith, length-at-most d (statesOf s) (observationsOf s) (sound .states-most) (sound .observations-most)))
+    read-done = right-taken d s la lq lh lr done (omega (arith, few)) (omega (arith, few)) (omega (arith, few)) (omega (arith, few))
 
     write-done : (lb : ℕ) → 44 + 1024 * suc d ≤ lb → writeAnswer d (statesOf s) (observationsOf s) la lq lh lr lb ≡ Done
-    unfolding writeAnswer
     write-done lb h =
-        rw (le-leb 1 (statesOf s) (sound .states-least), le-leb (statesOf s) 16 (sound .states-most), le-leb 1 (observationsOf s) (sound .observations-least), le-leb (observationsOf s) 16 (sound .observations-most), a-held, q-held, h-held, r-held, b-held lb h)
+        bytes-alone d (statesOf s) (observationsOf s) la lq lh lr lb (sound .states-least) (sound .states-most) (sound .observations-least) (sound .observations-most) (omega (arith, few)) (omega (arith, few)) (omega (arith, few)) (omega (arith, few))
+        ∙ rw (le-ltb lb (cardLength d (statesOf s) (observationsOf s)) (omega (arith, length-at-most d (statesOf s) (observationsOf s) (sound .states-most) (sound .observations-most))))
 
   -- so the card decides
   card-decides : readAnswer d s la lq lh lr ≡ cardAnswer d s

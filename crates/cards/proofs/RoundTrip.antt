@@ -2,28 +2,25 @@
 -- By the text of the settings on the one side (`card_text/proofs/Theorems.antt`) and the patterns of the numbers on the other (`card_text/proofs/Said.antt`).
 -- Over the format and the digits of an entry, which are as many as the format has. Assumes nothing.
 use mathlib.Core.Path.{_≡_, refl, sym, ap, _∙_, subst}
-use mathlib.Core.Bool.{Bool, true, false, true≢false}
-use mathlib.Core.List.{List, [], map}
+use mathlib.Core.Bool.{true}
+use mathlib.Core.List.{List, map}
 use Prim.Native.Nat.{ℕ, _*_, _^_, _≤_}
 use native.Mathlib.Nat.{zero-add}
 use lib.ListN.{length, getD, take, drop}
 use lib.Seq.{take-at, drop-at}
 use lib.Ieee.{Float, nan, Format, binary32, binary64, top}
-use borrow.Author.Tests.{le-ltb}
 use Rattle.answers.specs.declared.Answer.{Answer}
 use Rattle.answers.specs.declared.Answer.the-variants.{Done}
 use Rattle.answers.specs.Answers.{isDone}
-use Rattle.answers.specs.Tests.{callAnswer}
-use Rattle.answers.proofs.Kept.{is-done}
 use Rattle.lines.specs.Pattern.{quieted}
 use Rattle.grids.specs.Grid.{run}
 use Rattle.grids.proofs.Grids.{length-run, run-cell, run-ext}
-use Rattle.card_text.specs.Card.{statesOf, observationsOf, aOf, qOf, hOf, rOf, cardAnswer, buffers, readAnswer}
+use Rattle.card_text.specs.Card.{statesOf, observationsOf, aOf, qOf, hOf, rOf, cardAnswer, readAnswer}
 use Rattle.card_text.specs.Spelling.{Settings, Patterns, Sound, cardText, held, cardLength}
 use Rattle.card_text.specs.Said.{OfFormat, patterns, said, saidAgain, OneNanOnly}
 use Rattle.card_text.proofs.Theorems.{text-taken, text-held, taken-text, taken-sound}
 use Rattle.card_text.proofs.Length.{sound-length}
-use Rattle.card_text.proofs.Buffers.{card-first, then-buffers}
+use Rattle.card_text.proofs.Buffers.{right-taken, taken-right}
 use Rattle.card_text.proofs.Said.{patterns-back, said-sound, again, said-same}
 use Rattle.cards.specs.declared.Card.{Card}
 use Rattle.cards.specs.declared.Card.the-variants.{Sizes}
@@ -94,15 +91,8 @@ module _ {f : Format} {d n m l : ℕ} {a q h r : List Float} {b b' : List ℕ} (
       observations : observationsOf s ≡ m
       observations = ap (λ (x : Settings). x .m) written-held
 
-      room : callAnswer [] (buffers n m (length a₀) (length q₀) (length h₀) (length r₀)) [] ≡ Done
-      room = rw (le-ltb (length a₀) (n * n) la, le-ltb (length q₀) (n * n) lq, le-ltb (length h₀) (m * n) lh, le-ltb (length r₀) (m * m) lr)
-
       read-done : readAnswer d s (length a₀) (length q₀) (length h₀) (length r₀) ≡ Done
-      read-done =
-          then-buffers d s (length a₀) (length q₀) (length h₀) (length r₀) written-taken
-          ∙ ap (λ (x : ℕ). callAnswer [] (buffers x (observationsOf s) (length a₀) (length q₀) (length h₀) (length r₀)) []) states
-          ∙ ap (λ (x : ℕ). callAnswer [] (buffers n x (length a₀) (length q₀) (length h₀) (length r₀)) []) observations
-          ∙ room
+      read-done = right-taken d s (length a₀) (length q₀) (length h₀) (length r₀) written-taken (rw states la) (rw states lq) (rw (states, observations) lh) (rw observations lr)
 
       -- a matrix of k entries
       matrix : (k k' : ℕ) (es : List ℕ) (x x₀ : List Float) → k' ≡ k → es ≡ patterns f k x → OfFormat f x → k ≤ length x → run 0 k' (floats f es) x₀ ≡ run 0 k (λ i. getD x i nan) x₀
@@ -133,11 +123,7 @@ module _ {f : Format} {d n m l : ℕ} {s : List ℕ} {a₀ q₀ h₀ r₀ a q h 
   w = subst (λ (y : ℕ). CardWritten f d (statesOf s) y a q h r b (Length l) b') (read .2) (subst (λ (x : ℕ). CardWritten f d x m a q h r b (Length l) b') (read .1) written)
 
   card-done : cardAnswer d s ≡ Done
-  card-done = is-done (cardAnswer d s) (by (isDone (cardAnswer d s)) refl)
-    where
-      by : (t : Bool) → isDone (cardAnswer d s) ≡ t → isDone (cardAnswer d s) ≡ true
-      by true e = e
-      by false e = absurd (true≢false (sym taken ∙ ap isDone (card-first d s (length a₀) (length q₀) (length h₀) (length r₀) e) ∙ e))
+  card-done = taken-right d s (length a₀) (length q₀) (length h₀) (length r₀) taken
 
   held-sound : Sound d (held d s)
   held-sound = taken-sound d s card-done
