@@ -2,8 +2,14 @@
    processor's 1/v (divss), on every bit pattern of a range. Any NaN equals any other NaN.
 
    every_root FROM COUNT: the patterns from FROM on, COUNT of them; with no words, all 2^32.
+   every_root --loop: those above zero and finite, linked with a root whose loop is spoilt
+   (checks/every_root.sh): a root that differs is one that took the loop, so these are counted and
+   not told, and the reciprocals are left alone.
+   every_root --time FROM COUNT: compares nothing, and says how many nanoseconds a root of these
+   patterns takes, one after another: the least of some times.
+
    Two threads take every second pattern each. Prints the first differences, the counts and the
-   seconds, and exits with 1 where anything differs. */
+   seconds, and exits with 1 where anything differs that should not. */
 #include <inttypes.h>
 #include <pthread.h>
 #include <stdint.h>
@@ -15,6 +21,10 @@
 
 #define PATTERNS UINT64_C(4294967296)
 #define THREADS 2
+#define TIMES 15
+#define PASSES 64
+#define LEAST_NORMAL UINT32_C(0x00800000)
+#define INFINITE UINT32_C(0x7f800000)
 
 float yurgamysh_square_root(float x);
 float yurgamysh_recip(float v);
@@ -23,6 +33,7 @@ struct part {
     int number;
     uint64_t from, end;
     uint64_t roots, root_differs, recips, recip_differs;
+    uint64_t looped, looped_subnormal;
 };
 
 static float of_bits(uint32_t b) {
@@ -45,6 +56,12 @@ static float processor_root(float x) { return _mm_cvtss_f32(_mm_sqrt_ss(_mm_set_
 
 static float processor_recip(float v) {
     return _mm_cvtss_f32(_mm_div_ss(_mm_set_ss(1.0f), _mm_set_ss(v)));
+}
+
+static double seconds(void) {
+    struct timespec t;
+    clock_gettime(CLOCK_MONOTONIC, &t);
+    return (double)t.tv_sec + (double)t.tv_nsec / 1e9;
 }
 
 static void tell(const char *what, uint64_t differs, uint32_t arg, uint32_t found, uint32_t want) {
@@ -78,6 +95,36 @@ static void *compare(void *given) {
     return NULL;
 }
 
+/* With a spoilt loop: how many roots differ, and how many of these are of subnormal numbers. */
+static void *count_looped(void *given) {
+    struct part *p = given;
+    for (uint64_t i = p->from + p->number; i < p->end; i += THREADS) {
+        uint32_t arg = (uint32_t)i;
+        float x = of_bits(arg);
+        if (!same(bits_of(yurgamysh_square_root(x)), bits_of(processor_root(x)))) {
+            p->looped++;
+            p->looped_subnormal += arg < LEAST_NORMAL;
+        }
+    }
+    return NULL;
+}
+
+static void tell_time(uint64_t from, uint64_t count) {
+    double least = 0;
+    for (int k = 0; k < TIMES; k++) {
+        volatile uint32_t sink = 0;
+        double start = seconds();
+        for (int pass = 0; pass < PASSES; pass++)
+            for (uint64_t i = from; i < from + count; i++)
+                sink += bits_of(yurgamysh_square_root(of_bits((uint32_t)i)));
+        double took = seconds() - start;
+        if (k == 0 || took < least)
+            least = took;
+    }
+    printf("the %" PRIu64 " patterns from %08" PRIx64 " on: %.1f ns a root, the least of %d times\n",
+           count, from, least * 1e9 / ((double)PASSES * (double)count), TIMES);
+}
+
 static uint64_t number(const char *word, uint64_t most) {
     char *end;
     uint64_t n = strtoull(word, &end, 0);
@@ -89,37 +136,55 @@ static uint64_t number(const char *word, uint64_t most) {
 }
 
 int main(int argc, char **argv) {
-    if (argc != 1 && argc != 3) {
-        fprintf(stderr, "usage: every_root [FROM COUNT]\n");
+    int loop = argc == 2 && strcmp(argv[1], "--loop") == 0;
+    if (argc == 4 && strcmp(argv[1], "--time") == 0) {
+        uint64_t first = number(argv[2], PATTERNS - 1);
+        uint64_t some = number(argv[3], PATTERNS - first);
+        if (some > 0)
+            tell_time(first, some);
+        return 0;
+    }
+    if (argc != 1 && argc != 3 && !loop) {
+        fprintf(stderr, "usage: every_root [FROM COUNT | --loop | --time FROM COUNT]\n");
         return 2;
     }
     uint64_t from = argc == 3 ? number(argv[1], PATTERNS) : 0;
     uint64_t count = argc == 3 ? number(argv[2], PATTERNS - from) : PATTERNS;
+    if (loop) {
+        from = 1;
+        count = INFINITE - 1;
+    }
     struct part parts[THREADS] = {0};
     pthread_t threads[THREADS];
-    struct timespec start, stop;
-    clock_gettime(CLOCK_MONOTONIC, &start);
+    double start = seconds();
     for (int k = 0; k < THREADS; k++) {
         parts[k].number = k;
         parts[k].from = from;
         parts[k].end = from + count;
-        if (pthread_create(&threads[k], NULL, compare, &parts[k]) != 0) {
+        if (pthread_create(&threads[k], NULL, loop ? count_looped : compare, &parts[k]) != 0) {
             fprintf(stderr, "every_root: no thread\n");
             return 2;
         }
     }
     uint64_t roots = 0, root_differs = 0, recips = 0, recip_differs = 0;
+    uint64_t looped = 0, looped_subnormal = 0;
     for (int k = 0; k < THREADS; k++) {
         pthread_join(threads[k], NULL);
         roots += parts[k].roots;
         root_differs += parts[k].root_differs;
         recips += parts[k].recips;
         recip_differs += parts[k].recip_differs;
+        looped += parts[k].looped;
+        looped_subnormal += parts[k].looped_subnormal;
     }
-    clock_gettime(CLOCK_MONOTONIC, &stop);
+    double took = seconds() - start;
+    if (loop) {
+        printf("of %" PRIu64 " numbers above zero and finite, %" PRIu64 " took the loop, "
+               "%" PRIu64 " of them subnormal\n", count, looped, looped_subnormal);
+        return 0;
+    }
     printf("roots: %" PRIu64 " compared, %" PRIu64 " differ\n", roots, root_differs);
     printf("reciprocals: %" PRIu64 " compared, %" PRIu64 " differ\n", recips, recip_differs);
-    printf("%.0f seconds\n",
-           (double)(stop.tv_sec - start.tv_sec) + (double)(stop.tv_nsec - start.tv_nsec) / 1e9);
+    printf("%.0f seconds\n", took);
     return root_differs != 0 || recip_differs != 0;
 }

@@ -8,7 +8,9 @@ A line is `aaaaaaaa rrrrrrrr`, an f32 argument and its root as bit patterns in h
 that starts with '#' is a comment. First come the lines of PUBLISHED, a file of published roots in
 the same form, unchanged. Without that word they are taken from the list as it stands. Then come
 groups made here: NaN, the infinities and zeros, numbers below zero, the ends of each exponent's
-range, the powers of two with their neighbours, and random patterns from a fixed seed.
+range, the powers of two with their neighbours, random patterns from a fixed seed, the ends of each
+entry of the table of roots, and numbers for which the table's proposal is refused (make_table.py
+has the table).
 
 A root made here is worked out in whole numbers (math.isqrt) and rounded to nearest, a tie to even.
 No float is used. A root that is a NaN is written 7fc00000. Running this again gives the same bytes.
@@ -19,6 +21,9 @@ import random
 import sys
 from pathlib import Path
 
+sys.dont_write_bytecode = True  # checks/ holds sources alone
+import make_table
+
 CRATE = Path(__file__).resolve().parent.parent / "crates" / "roots"
 NAN = 0x7FC00000
 INF = 0x7F800000
@@ -26,6 +31,7 @@ SIGN = 0x80000000
 ONE = 1 << 23  # one step of the exponent's field
 SEED = 20261115
 RANDOM = 10000
+REFUSED = 64  # in each half of the table
 
 
 def root(b):
@@ -67,6 +73,39 @@ def published(path):
     return taken
 
 
+def entry_ends():
+    """The least and the largest argument of each entry of the table that an f32 leads to: in [1, 2),
+    whose exponent's field is odd, for entries below 512, and in [2, 4), where it is even, for the rest."""
+    for i in range(256, 1024):
+        # v, of which entry i has the first ten digits, is m or 2m
+        field, each = (127, make_table.STEPS) if i < 512 else (128, make_table.STEPS // 2)
+        for m in (i * each, i * each + each - 1):
+            yield field * ONE + m - ONE
+
+
+def accepts(n, s):
+    """What `root_check::accepts_root` gives."""
+    near = s * s - s < n <= s * s + s
+    return near and (ONE < s < 2 * ONE or (s == ONE and s * s <= n))
+
+
+def refused():
+    """The first arguments of each half for which the table's proposal is refused: a subnormal where
+    one has the same digits, else in [1, 2) or [2, 4)."""
+    table = [make_table.entry(i) for i in range(1024)]
+    for twice, field in ((1, 127), (2, 128)):
+        # the least shift that leads a subnormal to this half: 2 where v is m, 1 where it is 2m
+        up = 3 - twice
+        found = 0
+        m = ONE
+        while found < REFUSED:
+            v = m * twice
+            if not accepts(v * ONE, make_table.proposed(table, v)):
+                found += 1
+                yield m >> up if m % (1 << up) == 0 else field * ONE + m - ONE
+            m += 1
+
+
 def groups():
     """The groups made here: what the comment says, and the arguments."""
     digits = [1, 2, 0x155555, 0x1FFFFF, 0x200000, 0x3FFFFF]
@@ -89,6 +128,8 @@ def groups():
         b = draw.getrandbits(31)
         some.append(b + SIGN if draw.getrandbits(2) == 0 else b)
     yield f"{RANDOM} random patterns, a quarter of them with a sign; seed {SEED}", some
+    yield "the ends of each entry of the table of roots", entry_ends()
+    yield f"the first {REFUSED} of each half of the table whose proposal is refused", refused()
 
 
 def main():

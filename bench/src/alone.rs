@@ -60,7 +60,12 @@ pub fn decomposition<const N: usize, const NN: usize>(
     Ok(())
 }
 
-/// A root at a time, each of another number: the next begins before the last is done.
+/// So many roots, each of the last one times a number: the next waits for the last.
+fn chain(numbers: &[f32], count: usize, root: impl Fn(f32) -> f32) -> f32 {
+    (0..count).fold(1.0, |last, i| root(last * numbers[i % 1024]))
+}
+
+/// A root at a time, each of another number: the next begins before the last is done. Then a chain of them.
 pub fn root(plan: Plan, figures: &mut Vec<Figure>) -> Result<(), String> {
     let mut from = Numbers::new(7);
     let numbers: Vec<f32> = (0..1024)
@@ -87,6 +92,18 @@ pub fn root(plan: Plan, figures: &mut Vec<Figure>) -> Result<(), String> {
         ],
     );
     figures.push(Figure::alone(Kind::Root, ours, original));
+    let [ours, original] = in_turns(
+        plan,
+        [
+            &mut |count| {
+                black_box(chain(&numbers, count, ours::square_root));
+            },
+            &mut |count| {
+                black_box(chain(&numbers, count, MatrixDataType::square_root));
+            },
+        ],
+    );
+    figures.push(Figure::alone(Kind::RootChain, ours, original));
     Ok(())
 }
 

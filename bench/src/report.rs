@@ -10,6 +10,7 @@ pub enum Kind {
     Chain,
     Decomposition,
     Root,
+    RootChain,
     OnePredict,
     OneCorrect,
 }
@@ -54,6 +55,7 @@ impl Figure {
             Kind::Chain => format!("chain ({n}, {m})"),
             Kind::Decomposition => format!("decomposition {n}"),
             Kind::Root => "root".into(),
+            Kind::RootChain => "root of a root and a product".into(),
             Kind::OnePredict => "one-state predict".into(),
             Kind::OneCorrect => "one-state correct".into(),
         }
@@ -252,9 +254,21 @@ pub fn bars(figures: &[Figure], [_, correct, _]: &[Row; 3], cards: &[Card]) -> b
     if let Some(f) = figures.iter().find(|f| f.kind == Kind::OneCorrect) {
         let times = 1.0 / f.ratio();
         bar(
-            "one-state correct at most 2 times the original's",
+            "one-state correct at most 1.8 times the original's",
             times,
-            times <= 2.0,
+            times <= 1.8,
+        );
+    }
+    if let Some(f) = figures.iter().find(|f| f.kind == Kind::Root) {
+        let time = f.ours.median;
+        bar("a root in at most 5.5 ns", time, time <= 5.5);
+    }
+    let decomposed = |f: &&Figure| f.kind == Kind::Decomposition && f.n == 16;
+    if let Some(f) = figures.iter().find(decomposed) {
+        bar(
+            "decomposition at 16 at least as fast as the original's",
+            f.ratio(),
+            f.ratio() >= 1.0,
         );
     }
     bar(

@@ -9,15 +9,14 @@ use lib.Arith.{lt-of-le-ne}
 use lib.Pow.{pow-add, pow-pos}
 use lib.Ieee.{Float, nan, inf, fin, Format, binary32, binary64, prec, low, hid, ones, top, up, ofFields, ofBits, toBits, isNan, ne, div, fits}
 use lib.Ieee.Fits.{down-pos}
-use lib.Ieee.Bits.{ofBits-toBits}
+use lib.Ieee.Bits.{ofBits-toBits, toBits-lt}
 use lib.Ieee.Compare.{differs-from-itself}
 use lib.Ieee.Exact.{HasValue}
-use borrow.Author.Tests.{lt-leb, le-leb}
+use borrow.Author.Tests.{eqb-true, eqb-false, lt-leb, le-leb}
 use Rattle.numbers.specs.Root.{sqrtOf}
 use Rattle.numbers.specs.Pattern.{rootBits}
 use Rattle.data_type.proofs.Patterns.{field, digits, digits-lt, base, of-fields, at-ones, subnormal, normal, root-result}
 use Rattle.data_type.proofs.NotNan.{not-nan}
-use Rattle.data_type.proofs.Subnormal.{lift, moved, moved-up}
 
 -- ---- a NaN, either zero, and +∞ are their own roots
 pub own-nan : (f : Format) (x : Float) → ne x x ≡ true → x ≡ sqrtOf f x
@@ -71,10 +70,14 @@ normal-value f m e h = mul-assoc m (2 ^ (e - 1)) (2 ^ low f) ∙ ap (λ (x : ℕ
     shape binary32 e h = omega arith
     shape binary64 e h = omega arith
 
--- a subnormal value's d is within `root_bits`'s range
-few : (f : Format) (u : ℕ) → base f - u < ones f + (base f - 1)
-few binary32 u = omega arith
-few binary64 u = omega arith
+-- ---- the pattern of -0, and the others with the sign set: below zero, or -∞
+top-fields : (f : Format) → (field f (top f) ≡ 0) × (digits f (top f) ≡ 0)
+top-fields binary32 = (refl, refl)
+top-fields binary64 = (refl, refl)
+
+only-top : (f : Format) (b : ℕ) → b < 2 * top f → top f ≤ b → field f b ≡ 0 → digits f b ≡ 0 → b ≡ top f
+only-top binary32 b h l e t = omega arith
+only-top binary64 b h l e t = omega arith
 
 -- ---- the cases
 module _ (f : Format) (x : Float) (F : T (fits f x)) where
@@ -105,12 +108,11 @@ module _ (f : Format) (x : Float) (F : T (fits f x)) where
       let s = leb (top f) b in
       subst (λ (y : Float). y ≡ sqrtOf f y) (ap (λ (t : ℕ). ofFields f s 0 t) (sym k) ∙ at-field s 0 refl h) (own-zero f s)
 
-  pub case-sub : (w : ℕ) → prec f ≤ w → e ≡ 0 → (t ≡ 0 → ⊥) → b < top f → ofBits f (rootBits f (moved f w t) (base f - lift f w t)) ≡ sqrtOf f x
-  case-sub w r h k l =
-      let u = moved-up f w t r k (digits-lt f b) in
-      root-result f (moved f w t) (base f - lift f w t) (u .least) (u .most) (few f (lift f w t)) x t (rw (at-field false 0 (plus l) h) at (subnormal f false t)) (pos-of-ne-zero k) (u .value)
+  -- m and d are what the value comes to with its leading digit in place
+  pub case-sub : (m d : ℕ) → hid f ≤ m → m < 2 ^ prec f → d < ones f + (base f - 1) → t * 2 ^ low f ≡ m * 2 ^ (prec f + d) → e ≡ 0 → (t ≡ 0 → ⊥) → b < top f → ofBits f (rootBits f m d) ≡ sqrtOf f x
+  case-sub m d lo hi few v h k l = root-result f m d lo hi few x t (rw (at-field false 0 (plus l) h) at (subnormal f false t)) (pos-of-ne-zero k) v
 
-  pub case-sub-below : e ≡ 0 → (t ≡ 0 → ⊥) → top f ≤ b → div f (ofBits f 0) (ofBits f 0) ≡ sqrtOf f x
+  case-sub-below : e ≡ 0 → (t ≡ 0 → ⊥) → top f ≤ b → div f (ofBits f 0) (ofBits f 0) ≡ sqrtOf f x
   case-sub-below h k l = no-number f ∙ sym (below-zero f x t (rw (at-field true 0 (minus l) h) at (subnormal f true t)) (pos-of-ne-zero k))
 
   some : (j : ℕ) → 0 < (hid f + t) * 2 ^ j
@@ -121,7 +123,7 @@ module _ (f : Format) (x : Float) (F : T (fits f x)) where
       root-result f (hid f + t) (e + (base f - 1)) (le-add-right (hid f) t) (with-lead f t (digits-lt f b)) (omega (arith, under k)) x ((hid f + t) * 2 ^ (e - 1))
       (rw (at-field false e (plus l) refl) at (normal f false e t h (under k))) (some (e - 1)) (normal-value f (hid f + t) e h)
 
-  pub case-below : (e ≡ 0 → ⊥) → (e ≡ ones f → ⊥) → top f ≤ b → div f (ofBits f 0) (ofBits f 0) ≡ sqrtOf f x
+  case-below : (e ≡ 0 → ⊥) → (e ≡ ones f → ⊥) → top f ≤ b → div f (ofBits f 0) (ofBits f 0) ≡ sqrtOf f x
   case-below h k l = no-number f ∙ sym (below-zero f x ((hid f + t) * 2 ^ (e - 1)) (rw (at-field true e (minus l) refl) at (normal f true e t h (under k))) (some (e - 1)))
 
   pub case-inf : e ≡ ones f → b < top f → ne x x ≡ false → x ≡ sqrtOf f x
@@ -129,5 +131,20 @@ module _ (f : Format) (x : Float) (F : T (fits f x)) where
       let q = at-field false (ones f) (plus l) h in
       subst (λ (y : Float). y ≡ sqrtOf f y) q (own-inf f t (rw q (not-nan x n)))
 
-  pub case-inf-below : e ≡ ones f → top f ≤ b → div f (ofBits f 0) (ofBits f 0) ≡ sqrtOf f x
+  case-inf-below : e ≡ ones f → top f ≤ b → div f (ofBits f 0) (ofBits f 0) ≡ sqrtOf f x
   case-inf-below h l = no-number f ∙ sym (rw (at-field true (ones f) (minus l) h) at (below-inf f t))
+
+  -- the sign is set
+  pub case-minus-zero : b ≡ top f → x ≡ sqrtOf f x
+  case-minus-zero h = let z = top-fields f in case-zero (ap (field f) h ∙ z .0) (ap (digits f) h ∙ z .1)
+
+  pub case-minus : top f ≤ b → (b ≡ top f → ⊥) → div f (ofBits f 0) (ofBits f 0) ≡ sqrtOf f x
+  case-minus l n = at-zero (eqb e 0) refl
+    where
+      at-inf : (e ≡ 0 → ⊥) → (z : Bool) → eqb e (ones f) ≡ z → div f (ofBits f 0) (ofBits f 0) ≡ sqrtOf f x
+      at-inf g true q = case-inf-below (eqb-true e (ones f) q) l
+      at-inf g false q = case-below g (eqb-false e (ones f) q) l
+
+      at-zero : (z : Bool) → eqb e 0 ≡ z → div f (ofBits f 0) (ofBits f 0) ≡ sqrtOf f x
+      at-zero true q = let h = eqb-true e 0 q in case-sub-below h (λ k. n (only-top f b (toBits-lt f x F) l h k)) l
+      at-zero false q = at-inf (eqb-false e 0 q) (eqb e (ones f)) refl

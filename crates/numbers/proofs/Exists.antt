@@ -42,12 +42,10 @@ root-at f n k lo hi =
     ap (λ (j : ℕ). units f false (nearRoot p (w / sq (2 ^ j))) j) (drops p n k (two-le-pos p (two f)) lo hi)
     ∙ ap (λ (x : ℕ). units f false (nearRoot p x) k) (mul-div-cancel n (mul-pos (pow-pos k) (pow-pos k)))
 
--- ---- the fraction a / c = n · 4 ^ k / 4 ^ l has the root `nearRoot p n` · 2 ^ (k - l)
-pub root-holds : (p a c n k l : ℕ) → 0 < c → a * sq (2 ^ l) ≡ n * sq (2 ^ k) * c → sq (2 ^ (p - 1)) ≤ n → n + 2 ^ p ≤ sq (2 ^ p) → IsRoot p a c (nearRoot p n) (minus k l)
-root-holds p a c n k l C e lo hi =
+-- ---- the fraction a / c = n · 4 ^ k / 4 ^ l has the root s · 2 ^ (k - l), where s is the whole number next to the root of n
+pub near-holds : (p a c n k l s : ℕ) → 0 < c → a * sq (2 ^ l) ≡ n * sq (2 ^ k) * c → Near p n s → IsRoot p a c s (minus k l)
+near-holds p a c n k l s C e r =
     let F = minus k l in
-    let s = nearRoot p n in
-    let r : Near p n s = near-is p n lo hi in
     let q : 2 ^ k * down F ≡ up F * 2 ^ l = sym (sym (ap (λ (x : ℕ). x * 2 ^ l) (one-mul (up F))) ∙ minus-val 1 k l ∙ ap (λ (x : ℕ). x * down F) (one-mul (2 ^ k))) in
     let z : 0 < sq (2 ^ k) * c = mul-pos (mul-pos (pow-pos k) (pow-pos k)) C in
     let four : 4 * n * (sq (2 ^ k) * c) ≡ 4 * a * sq (2 ^ l) = mul-assoc 4 n (sq (2 ^ k) * c) ∙ ap (λ (x : ℕ). 4 * x) (sym (mul-assoc n (sq (2 ^ k)) c) ∙ sym e) ∙ sym (mul-assoc 4 a (sq (2 ^ l))) in
@@ -61,6 +59,9 @@ root-holds p a c n k l C e lo hi =
       edge = λ d. cross-le (2 ^ k) (2 ^ l) (down F) (up F) q (pow-pos l) (down-pos F) (sq s) c a
           (le-trans (mul-le-mul-right c (mul-le-mul-right (sq (2 ^ k)) (r .edge d))) (le-of-eq (sym e)));
     }
+
+pub root-holds : (p a c n k l : ℕ) → 0 < c → a * sq (2 ^ l) ≡ n * sq (2 ^ k) * c → sq (2 ^ (p - 1)) ≤ n → n + 2 ^ p ≤ sq (2 ^ p) → IsRoot p a c (nearRoot p n) (minus k l)
+root-holds p a c n k l C e lo hi = near-holds p a c n k l (nearRoot p n) C e (near-is p n lo hi)
 
 -- ---- a number of p digits with p + d zeros after it is such an n · 4 ^ k
 abbrev pub wide : ℕ → ℕ → ℕ → ℕ

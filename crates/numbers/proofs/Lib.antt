@@ -2,6 +2,7 @@
 pub mod Floor
 pub mod Unique
 pub mod Exists
+pub mod Accepted
 pub mod Nearest
 pub mod Reciprocals
 pub mod Largest

@@ -3,6 +3,7 @@ use mathlib.Core.Path.{_≡_, refl}
 use mathlib.Core.Bool.{true}
 use lib.Ieee.{add, sub, mul, div, neg, lt, ofBits, toBits, isNan}
 use Rattle.numbers.specs.Root.{sqrtOf}
+use Rattle.numbers.specs.Proposed.{accepts}
 use Rattle.numbers.specs.Sums.{sumFrom}
 use Rattle.numbers.specs.Finite.{every}
 use Rattle.grids.specs.Grid.{run, grid}
@@ -22,5 +23,5 @@ use Rattle.promises.specs.Cards as cards
 use Rattle.promises.specs.Table.{table}
 
 pub checked : table ≡ true
-unfolding table predicted corrected each howMany every sqrtOf sumFrom run grid pivotTaken lessDot factor lastRecip firstNot plusSum solved back add sub mul div neg lt ofBits toBits digitOf ends firstLine behindLine behindLines begins isCount numberIn areDigits speltFrom isEntry areEntries entriesIn countLine countOf entriesLine entriesOf cardAnswer readAnswer countText entryText entriesText cardText cardLength isNan patterns writeAnswer cards.returns cards.cut
+unfolding table predicted corrected each howMany every sqrtOf accepts sumFrom run grid pivotTaken lessDot factor lastRecip firstNot plusSum solved back add sub mul div neg lt ofBits toBits digitOf ends firstLine behindLine behindLines begins isCount numberIn areDigits speltFrom isEntry areEntries entriesIn countLine countOf entriesLine entriesOf cardAnswer readAnswer countText entryText entriesText cardText cardLength isNan patterns writeAnswer cards.returns cards.cut
 checked = refl

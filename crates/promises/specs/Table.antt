@@ -1,5 +1,5 @@
 -- The checked examples (R26), of the definitions themselves: one table, bits in hexadecimal. `proofs/Table.antt` computes it. Definitions only.
-use mathlib.Core.Bool.{Bool, true, false, _&&_}
+use mathlib.Core.Bool.{Bool, true, false, not, _&&_}
 use mathlib.Core.List.{List, [], _∷_, _++_, map}
 use Prim.Native.Nat.{ℕ}
 use lib.Dec.{eqb}
@@ -8,6 +8,7 @@ use lib.Ieee.{Float, binary32, ofBits, toBits}
 use Rattle.answers.specs.declared.Answer.the-variants.{Size, Short}
 use Rattle.answers.specs.Answers.{numberOf, carriedBy, settled}
 use Rattle.numbers.specs.Root.{sqrtOf}
+use Rattle.numbers.specs.Proposed.{accepts}
 use Rattle.grids.specs.Grid.{cell, run, grid}
 use Rattle.entries.specs.Entries.{product, rowProduct}
 use Rattle.factors.specs.Decomposition.{reached, decomposed}
@@ -146,6 +147,15 @@ table =
     && has (sqrtOf binary32 (ofBits binary32 0x7f7fffff)) 0x5f7fffff
     && has (sqrtOf binary32 (ofBits binary32 0x80000000)) 0x80000000
     && has (sqrtOf binary32 (ofBits binary32 0x7f800000)) 0x7f800000
+    -- proposed roots of 2^46, and of one less: the second leads below the least of 24 digits
+    && accepts 24 0x400000000000 0x800000
+    && not (accepts 24 0x3fffffffffff 0x800000)
+    -- of 2^46 + 2^23, of 2^47 and of 2^48 - 1
+    && accepts 24 0x400000800000 0x800000
+    && not (accepts 24 0x400000800000 0x800001)
+    && accepts 24 0x800000000000 0xb504f3
+    && not (accepts 24 0x800000000000 0xb504f4)
+    && not (accepts 24 0xffffffffffff 0x1000000)
     -- A·x
     && are (run 0 2 (predictedX binary32 2 A (values (0x40400000 ∷ 0x40000000 ∷ []))) (values (0x40400000 ∷ 0x40000000 ∷ []))) (0x40a00000 ∷ 0x40000000 ∷ [])
     -- A·P, and A·P·Aᵀ + Q

@@ -1,0 +1,2 @@
+-- The cases of the test, for a root of any number of digits.
+mod Cases

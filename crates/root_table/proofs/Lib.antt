@@ -1,0 +1,2 @@
+-- How large the parts of an estimate are.
+mod Sizes
