@@ -2,7 +2,7 @@
 # Compares the proved square root and reciprocal with the processor's on all 2^32 bit patterns of
 # an f32, any NaN equal to any other NaN.
 #
-#   checks/every_root.sh                all of them: 22 seconds on two cores with little else to do
+#   checks/every_root.sh                all of them: 12 seconds on two cores with nothing else to do
 #   checks/every_root.sh FROM COUNT     COUNT patterns from FROM on, as 0x3f800000 1000000
 #   checks/every_root.sh --damaged      all of them twice, with the table as it is and with one of its
 #                                       entries damaged: how many differ, the seconds, and what a root
@@ -44,13 +44,13 @@ copy_to() { # NAME
     cp crates.txt "$trees/$1/"
 }
 
-# Entry 700 (arm 188 of the upper half) gets what entry 512 (arm 0) holds, its e and what improves it. Its
+# Entry 700 (arm 188 of the upper half) gets the number of entry 512 (arm 0), e and what improves it. Its
 # proposals are then short of the roots by two million or so. Every second exponent leads to it.
 damage() { # NAME
     file=crates/upper_roots/src/lib.rt
     awk '
-        /^ *0 => Entry\(/ { other = $0; sub(/^ *0 => /, "", other) }
-        /^ *188 => Entry\(/ && other != "" { sub(/=> .*/, "=> " other); edited++ }
+        /^ *0 => 0x/ { other = $0; sub(/^ *0 => /, "", other) }
+        /^ *188 => 0x/ && other != "" { sub(/=> .*/, "=> " other); edited++ }
         { print }
         END { exit (edited != 1) }' "$file" >"$trees/$1/$file" || fail "$file has not the two arms that it had"
 }

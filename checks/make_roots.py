@@ -92,7 +92,7 @@ def accepts(n, s):
 def refused():
     """The first arguments of each half for which the table's proposal is refused: a subnormal where
     one has the same digits, else in [1, 2) or [2, 4)."""
-    table = [make_table.entry(i) for i in range(1024)]
+    table = [make_table.number(i) for i in range(1024)]
     for twice, field in ((1, 127), (2, 128)):
         # the least shift that leads a subnormal to this half: 2 where v is m, 1 where it is 2m
         up = 3 - twice

@@ -7,15 +7,18 @@ crates/upper_roots/src/lib.rt, entries 512 to 1,023.
     checks/make_table.py --misses    tries every number that an f32 leads to, and counts those for
                                      which the proposal is not the root (half a minute)
 
-Entry i has e, the largest whole number with e·e at most i·2^20, and more, by which an estimate that
-starts from e is improved. An f32 above zero leads to a whole number v from 2^23 up to 2^25, even where
-it is not below 2^24, and its root's 24 digits are those of the root of v·2^23. With i = v / 2^15 and t = v mod 2^15 the proposal is
+A number of the table has 64 binary digits. The first 16 are e, the largest whole number with e·e at most
+i·2^20. Behind it stand rest, slope and bend, of 16, 22 and 10 digits, by which an estimate that starts
+from e is improved. An f32 above zero leads to a whole number v from 2^23 up to 2^25, even where it is not
+below 2^24, and its root's 24 digits are those of the root of v·2^23. With i = v / 2^15, t = v mod 2^15 and
+w the number of entry i, the proposal is
 
-    (e·2^32 + rest + slope·t + bend·(t·(2^15 - t) / 2^13)) / 2^23
+    (w / 2^16 + slope·t + bend·(t·(2^15 - t) / 2^13)) / 2^23
 
-in whole numbers: the chord over the entry's 2^15 numbers, and how far the root bends away from it.
-more = rest·2^32 + slope·2^10 + bend, of 32, 22 and 10 binary digits. rest holds half a unit too, so
-that the last division rounds to the nearest. No v is below 2^23, so entries below 256 have more = 0.
+in whole numbers: the root at the entry, the chord over the entry's 2^15 numbers, and how far the root
+bends away from it. w / 2^16 is e·2^32 + rest·2^16 and a few digits of slope, which are reckoned with, as
+is half a unit, so that the last division rounds to the nearest. No v is below 2^23: entries below 256
+have e alone.
 
 Everything is worked out in whole numbers (math.isqrt): running this again gives the same bytes.
 """
@@ -54,28 +57,26 @@ def improved(i):
     for s in range(chord - 1, chord + 3):
         for b in range(max(bend - 1, 0), bend + 3):
             off = [r - s * t - b * u for t, u, r in tried]
-            wide = max(off) - min(off)
+            middle = (max(off) + min(off)) // 2 + (1 << (FINE - 1)) - (largest(i) << 32) - (s >> 6)
+            rest = min((middle + (1 << 15)) >> 16, (1 << 16) - 1)
+            wide = max(off) - min(off) + 2 * abs(middle - (rest << 16))
             if best is None or wide < best[0]:
-                best = (wide, (max(off) + min(off)) // 2, s, b)
-    _, middle, s, b = best
-    rest = min(middle + (1 << (FINE - 1)) - (largest(i) << 32), (1 << 32) - 1)
+                best = (wide, rest, s, b)
+    _, rest, s, b = best
     assert 0 <= rest and s < 1 << 22 and b < 1 << 10, (i, rest, s, b)
     return rest, s, b
 
 
-def entry(i):
-    if i < 256:
-        return largest(i), 0
-    rest, slope, bend = improved(i)
-    return largest(i), rest << 32 | slope << 10 | bend
+def number(i):
+    """The table's number at i."""
+    rest, slope, bend = improved(i) if i >= 256 else (0, 0, 0)
+    return largest(i) << 48 | rest << 32 | slope << 10 | bend
 
 
 def proposed(table, v):
     """What `root_table::proposed` gives."""
-    e, more = table[v // STEPS]
-    t = v % STEPS
-    total = (e << 32) + (more >> 32) + (more >> 10) % (1 << 22) * t + more % (1 << 10) * bulge(t)
-    return total >> FINE
+    w, t = table[v // STEPS], v % STEPS
+    return ((w >> 16) + (w >> 10) % (1 << 22) * t + w % (1 << 10) * bulge(t)) >> FINE
 
 
 def root(v):
@@ -85,7 +86,8 @@ def root(v):
 
 
 def text(table, name, first):
-    arms = "".join("        %d => Entry(%d, 0x%016x),\n" % (k, *table[first + k]) for k in range(512))
+    parts = lambda w: (w >> 48, w >> 32 & 0xFFFF, w & 0xFFFFFFFF)
+    arms = "".join("        %d => 0x%04x_%04x_%08x,\n" % (k, *parts(table[first + k])) for k in range(512))
     return TEXT % {
         "name": name,
         "first": "{:,}".format(first),
@@ -99,16 +101,16 @@ def text(table, name, first):
 
 TEXT = """// The %(name)s half of the table of roots (R37): entries %(first)s to %(last)s. Made by checks/make_table.py.
 //
-// A `match` whose arms are constants is compiled to a table in the program's read-only data; a `const`
-// array would be built anew on the stack at each use.
+// Each number begins with the entry, four hexadecimal digits; what stands behind it improves an estimate
+// that starts there (`root_table::proposed`). A `match` whose arms are constants is compiled to a table in
+// the program's read-only data; a `const` array would be built anew on the stack at each use.
 ghost use Prim.Native.Nat.{%(uses)s};
-ghost use Rattle.numbers.specs.Proposed.{IsEntry};
-use root_entries::Entry;
+ghost use Rattle.numbers.specs.Proposed.{IsEntry, entryIn};
 
-// Entry %(k)s.
-pub fn entry_of(k: u32) -> Entry
+// The number of entry %(k)s.
+pub fn number_of(k: u32) -> u64
     requires { ⌜ k < 512 ⌝ }
-    ensures { λ r. ⌜ IsEntry %(i)s (r .0) ⌝ }
+    ensures { λ r. ⌜ IsEntry %(i)s (entryIn r) ⌝ }
 {
     match k {
 %(arms)s        _ => root_entries::worked_out(%(k)s),
@@ -128,7 +130,7 @@ def misses(table):
 
 
 def main():
-    table = [entry(i) for i in range(1024)]
+    table = [number(i) for i in range(1024)]
     files = {CRATES / (name + "_roots") / "src" / "lib.rt": text(table, name, first) for name, first in HALVES}
     if sys.argv[1:] == ["--misses"]:
         misses(table)

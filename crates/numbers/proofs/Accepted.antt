@@ -1,9 +1,8 @@
 -- The test of a proposed root (R37): whoever proposes, what it accepts is the root, and the root is accepted. `Near` is the rule that `accepts` tests; the whole number that keeps it is the one next to the root. Assumes nothing.
-use mathlib.Core.Path.{_≡_, sym, ap, _∙_, subst}
+use mathlib.Core.Path.{_≡_, sym, _∙_, subst}
 use mathlib.Core.Bool.{Bool, true, false, not, _&&_, cond}
-use Prim.Native.Nat.{ℕ, zero, suc, _+_, _-_, _*_, _^_, _≤_, _<_}
-use native.Mathlib.Nat.{le-of-lt, lt-of-lt-of-le, lt-of-le-of-lt, lt-irrefl}
-use native.Mathlib.Numerals.{add-one}
+use Prim.Native.Nat.{ℕ, _+_, _-_, _*_, _/_, _^_, _≤_, _<_}
+use native.Mathlib.Nat.{le-of-lt, lt-of-lt-of-le, lt-of-le-of-lt}
 use native.Mathlib.Omega.{arith}
 use lib.Dec.{T, not-T, eqb, leb, ltb, leb→le, le→leb, ltb→lt, lt→ltb, nltb→le, eqb→eq}
 use lib.Pow.{pow-add, pow-pos}
@@ -14,8 +13,8 @@ use lib.Ieee.Exact.{HasValue}
 use lib.Ieee.Positive.{num, den, positive}
 use borrow.Author.Tests.{eq-eqb}
 use Rattle.numbers.specs.Root.{sq, IsRoot, floorRoot, nearRoot, sqrtOf}
-use Rattle.numbers.specs.Proposed.{accepts, IsEntry}
-use Rattle.numbers.proofs.Floor.{Near, Floor, sq-next, sq-half, sq-twice, sq-mono, sq-below, floor-is, near-is, near-of-floor}
+use Rattle.numbers.specs.Proposed.{IsEntry, entryIn, accepts}
+use Rattle.numbers.proofs.Floor.{Near, Floor, sq-next, sq-half, sq-twice, sq-odd-below, sq-mono, sq-below, floor-is, near-is, near-of-floor}
 use Rattle.numbers.proofs.Exists.{near-holds, sqrt-only}
 
 -- ---- an entry of the table: no larger number will do, and there is one only; it has 15 digits
@@ -30,6 +29,13 @@ entry-one i e q h k =
 
 pub entry-small : (i e : ℕ) → i < 1024 → IsEntry i e → e < 32768
 entry-small i e h k = sq-below e 32768 (lt-of-le-of-lt (k .0) (omega arith))
+
+-- e alone, with 48 zeros behind it, is a number that begins with it
+pub entry-alone : (i e : ℕ) → IsEntry i e → IsEntry i (entryIn (e * 281474976710656))
+entry-alone i e h = subst (λ (x : ℕ). IsEntry i x) (sym (cut e)) h
+  where
+    cut : (e : ℕ) → e * 281474976710656 / 281474976710656 ≡ e
+    cut e = omega arith
 
 -- ---- the test is a test of the rule
 pub accepted : (p n s : ℕ) → T (accepts p n s) → Near p n s
@@ -78,21 +84,11 @@ pub accepts-no : (p n s : ℕ) → (Near p n s → ⊥) → accepts p n s ≡ fa
 accepts-no p n s g = is-false (accepts p n s) (not-T (accepts p n s) (λ t. g (accepted p n s t)))
 
 -- ---- both inequalities as the code asks them, without the 4 and the odd numbers
-odd-below : (s : ℕ) → 0 < s → sq (2 * s - 1) + 4 * s ≡ 4 * sq s + 1
-odd-below zero h = absurd (lt-irrefl 0 h)
-odd-below (suc r) h = rw (← add-one r) (go r (sq-half r) (sq-next r))
-  where
-    shape : (r : ℕ) → 2 * (r + 1) - 1 ≡ 2 * r + 1
-    shape r = omega arith
-
-    go : (r : ℕ) → sq (2 * r + 1) ≡ 4 * sq r + 4 * r + 1 → sq (r + 1) ≡ sq r + 2 * r + 1 → sq (2 * (r + 1) - 1) + 4 * (r + 1) ≡ 4 * sq (r + 1) + 1
-    go r a b = ap (λ (x : ℕ). sq x + 4 * (r + 1)) (shape r) ∙ omega arith
-
 above-zero : (p n s : ℕ) → Near p n s → 0 < s
 above-zero p n s r = lt-of-lt-of-le (pow-pos (p - 1)) (r .least)
 
 pub near-over : (p n s : ℕ) → Near p n s → s * s < n + s
-near-over p n s r = let a = odd-below s (above-zero p n s r) in let b = r .over in omega arith
+near-over p n s r = let a = sq-odd-below s (above-zero p n s r) in let b = r .over in omega arith
 
 pub near-under : (p n s : ℕ) → Near p n s → n ≤ s * s + s
 near-under p n s r = let a = sq-half s in let b = r .under in omega arith
@@ -101,7 +97,7 @@ pub near-of : (p n s : ℕ) → 2 ^ (p - 1) ≤ s → s < 2 ^ p → s * s < n + 
 near-of p n s lo hi o u e = record {
   least = lo;
   most = hi;
-  over = (let a = odd-below s (lt-of-lt-of-le (pow-pos (p - 1)) lo) in omega arith);
+  over = (let a = sq-odd-below s (lt-of-lt-of-le (pow-pos (p - 1)) lo) in omega arith);
   under = (let a = sq-half s in omega arith);
   edge = e;
 }

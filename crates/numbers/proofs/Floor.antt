@@ -1,7 +1,7 @@
 -- The whole part of a root, and the whole number next to it. Nothing here is about floats. Assumes nothing.
 use mathlib.Core.Path.{_≡_, sym, ap, _∙_, subst}
 use Prim.Native.Nat.{ℕ, zero, suc, _+_, _-_, _*_, _/_, _^_, _≤_, _<_}
-use native.Mathlib.Nat.{le-trans, eq-or-lt-of-le, lt-of-lt-of-le, lt-of-le-of-lt, lt-of-not-le, not-le-of-lt, lt-irrefl, add-mul, mul-add, mul-one, one-mul, mul-comm, mul-assoc, mul-left-comm, mul-le-mul}
+use native.Mathlib.Nat.{le-trans, eq-or-lt-of-le, lt-of-lt-of-le, lt-of-le-of-lt, lt-of-not-le, not-le-of-lt, lt-irrefl, add-mul, mul-add, mul-one, one-mul, mul-assoc, mul-left-comm, mul-le-mul}
 use native.Mathlib.Omega.{arith}
 use native.Mathlib.Numerals.{add-one}
 use mathlib.Core.Logic.{⊎-elim}
@@ -21,6 +21,16 @@ sq-twice r = sq-mul 2 r
 
 pub sq-half : (r : ℕ) → sq (2 * r + 1) ≡ 4 * sq r + 4 * r + 1
 sq-half r = sq-next (2 * r) ∙ (let e : sq (2 * r) ≡ 4 * sq r = sq-twice r in omega arith)
+
+pub sq-odd-below : (s : ℕ) → 0 < s → sq (2 * s - 1) + 4 * s ≡ 4 * sq s + 1
+sq-odd-below zero h = absurd (lt-irrefl 0 h)
+sq-odd-below (suc r) h = rw (← add-one r) (go r (sq-half r) (sq-next r))
+  where
+    shape : (r : ℕ) → 2 * (r + 1) - 1 ≡ 2 * r + 1
+    shape r = omega arith
+
+    go : (r : ℕ) → sq (2 * r + 1) ≡ 4 * sq r + 4 * r + 1 → sq (r + 1) ≡ sq r + 2 * r + 1 → sq (2 * (r + 1) - 1) + 4 * (r + 1) ≡ 4 * sq (r + 1) + 1
+    go r a b = ap (λ (x : ℕ). sq x + 4 * (r + 1)) (shape r) ∙ omega arith
 
 pub sq-mono : {a b : ℕ} → a ≤ b → sq a ≤ sq b
 sq-mono h = mul-le-mul h h
@@ -69,22 +79,11 @@ pub record Near (p n s : ℕ) : Type 0 where
   pub under : 4 * n < sq (2 * s + 1)
   pub edge : s ≡ 2 ^ (p - 1) → sq s ≤ n
 
-pred-odd : (r : ℕ) → sq (2 * (r + 1) - 1) ≡ sq (2 * r + 1)
-pred-odd r = ap sq (shape r)
-  where
-    shape : (r : ℕ) → 2 * (r + 1) - 1 ≡ 2 * r + 1
-    shape r = omega arith
-
 clash : (s h : ℕ) → h ≤ s → s + 1 ≡ h → ⊥
 clash s h l e = omega arith
 
 over-low : (n r : ℕ) → 0 < r → sq r ≤ n → sq (2 * r - 1) < 4 * n
-over-low n zero h k = absurd (lt-irrefl 0 h)
-over-low n (suc r) h k =
-    let a : sq (2 * (r + 1) - 1) ≡ sq (2 * r + 1) = pred-odd r in
-    let b = sq-half r in
-    let d = sq-next r in
-    rw (← add-one r) (let l : sq (r + 1) ≤ n = rw add-one k in omega arith)
+over-low n r h k = let a = sq-odd-below r h in omega arith
 
 no-carry : (n r : ℕ) → sq (2 * r + 1) ≤ 4 * n → n + (r + 1) ≤ sq (r + 1) → ⊥
 no-carry n r h k = let a = sq-half r in let b = sq-next r in omega arith
@@ -112,7 +111,7 @@ near p n r lo hi h = go (ltb (4 * n) (sq (2 * r + 1))) (ltb→lt (4 * n) (sq (2 
     go false l g = record {
       least = le-trans at-least (le-suc' r);
       most = ⊎-elim (λ e. absurd (no-carry n r (g tt) (subst (λ (q : ℕ). n + q ≤ sq q) (sym e) hi))) (λ l. l) (eq-or-lt-of-le (up-one r (2 ^ p) at-most));
-      over = rw pred-odd (let a = sq-half r in let b = g tt in omega arith);
+      over = (let a = sq-odd-below (r + 1) (omega arith) in let b = sq-next r in let c = sq-half r in let d = g tt in omega arith);
       under = (let a = sq-next r in let b = sq-half (r + 1) in omega arith);
       edge = λ e. absurd (clash r (2 ^ (p - 1)) at-least e);
     }

@@ -1,8 +1,8 @@
-// The whole part of a root, a digit at a time, and an entry of the table of roots.
+// The whole part of a root, a digit at a time, and with it an entry of the table of roots.
 //
 // A core: `requires` say what a caller has to see to. The table itself is `lower_roots` and `upper_roots`.
 ghost use Prim.Native.Nat.{_+_, _*_, _≤_, _<_};
-ghost use Rattle.numbers.specs.Proposed.{IsEntry};
+ghost use Rattle.numbers.specs.Proposed.{IsEntry, entryIn};
 
 // The whole part of the root of n, which has 48 binary digits at most: a digit at a time, from the
 // highest of 24 down.
@@ -22,14 +22,10 @@ pub fn by_digits(n: u64) -> u64
     r
 }
 
-// An entry of the table: e, by R37's rule; and what an estimate that starts from e is improved by
-// (`root_table::proposed` reads it).
-pub struct Entry(pub u64, pub u64);
-
-// Entry i, worked out, with nothing to improve it by.
-pub fn worked_out(i: u32) -> Entry
+// The table's number at i, worked out: the entry, and nothing behind it to improve an estimate by.
+pub fn worked_out(i: u32) -> u64
     requires { ⌜ i < 1024 ⌝ }
-    ensures { λ r. ⌜ IsEntry i (r .0) ⌝ }
+    ensures { λ r. ⌜ IsEntry i (entryIn r) ⌝ }
 {
-    Entry(by_digits(i as u64 * 1048576), 0)
+    by_digits(i as u64 * 1048576) * 281474976710656
 }

@@ -1,4 +1,4 @@
--- How large the parts of an estimate are, whatever the entry holds. Assumes nothing.
+-- How large the parts of an estimate are, whatever the table holds. Assumes nothing.
 use Prim.Native.Nat.{ℕ, _-_, _*_, _/_, _%_, _≤_, _<_}
 use native.Mathlib.Nat.{le-of-lt, le-trans, mul-le-mul}
 use native.Mathlib.Omega.{arith}

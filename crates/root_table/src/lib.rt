@@ -3,19 +3,18 @@
 // A core: `requires` say what a caller has to see to. Nothing is promised of a proposal but its size;
 // `root_check` tests it.
 ghost use Prim.Native.Nat.{_<_};
-ghost use Rattle.numbers.specs.Proposed.{IsEntry};
-use root_entries::Entry;
+ghost use Rattle.numbers.specs.Proposed.{IsEntry, entryIn};
 
-// Entry i.
-pub fn entry_at(i: u32) -> Entry
+// The table's number at i, which begins with entry i.
+pub fn number_at(i: u32) -> u64
     requires { ⌜ i < 1024 ⌝ }
-    ensures { λ r. ⌜ IsEntry i (r .0) ⌝ }
+    ensures { λ r. ⌜ IsEntry i (entryIn r) ⌝ }
 {
     let k = i % 512;
     if i < 512 {
-        lower_roots::entry_of(k)
+        lower_roots::number_of(k)
     } else {
-        upper_roots::entry_of(k)
+        upper_roots::number_of(k)
     }
 }
 
@@ -25,19 +24,18 @@ pub fn proposed(v: u32) -> u64
     requires { ⌜ v < 33554432 ⌝ }
     ensures { λ r. ⌜ r < 67108864 ⌝ }
 {
-    let entry = entry_at(v / 32768);
-    improved(entry.0, entry.1, (v % 32768) as u64)
+    let w = number_at(v / 32768);
+    improved(w, (v % 32768) as u64)
 }
 
-// The estimate e · 2^9, improved: by the rest of the root at the entry, along a chord to the next entry,
-// and by how far the root bends away from the chord. The three stand in `more`, in 32, 22 and 10 binary
-// digits; the sum has 23 behind the point.
-fn improved(e: u64, more: u64, t: u64) -> u64
-    requires { ⌜ (e < 32768) × (t < 32768) ⌝ }
+// The entry's root, which w begins with, moved t along the chord to the next entry's and away from it by
+// the root's bend: slope and bend are the last 22 and 10 of w's binary digits, and the sum has 23 behind
+// the point.
+fn improved(w: u64, t: u64) -> u64
+    requires { ⌜ t < 32768 ⌝ }
     ensures { λ r. ⌜ r < 67108864 ⌝ }
 {
-    let rest = more / 4294967296;
-    let slope = more / 1024 % 4194304;
-    let bend = more % 1024;
-    (e * 4294967296 + rest + slope * t + bend * (t * (32768 - t) / 8192)) / 8388608
+    let slope = w / 1024 % 4194304;
+    let bend = w % 1024;
+    (w / 65536 + slope * t + bend * (t * (32768 - t) / 8192)) / 8388608
 }
