@@ -10,7 +10,7 @@ use lib.Ieee.{Float, Format, prec, low, up, down, minus, fits}
 use lib.Ieee.Fits.{and-i, and-l, and-r}
 use lib.Ieee.Bits.{is-true, is-false}
 use lib.Ieee.Exact.{HasValue}
-use lib.Ieee.Positive.{num, den, positive}
+use lib.Ieee.Positive.{num, den, den-pos, positive}
 use borrow.Author.Tests.{eq-eqb}
 use Rattle.numbers.specs.Root.{sq, IsRoot, floorRoot, nearRoot, sqrtOf}
 use Rattle.numbers.specs.Proposed.{IsEntry, entryIn, accepts}
@@ -140,5 +140,5 @@ pub accepted-rule : (p a c n k l s : ℕ) → 0 < c → a * sq (2 ^ l) ≡ n * s
 accepted-rule p a c n k l s C e t = near-holds p a c n k l s C e (accepted p n s (subst T (sym t) tt))
 
 -- and of floats, in either format: a value y of the format that is s·2^F is the root of x
-pub accepted-sqrt : (f : Format) (x y : Float) (n k s : ℕ) → T (positive x) → T (fits f x) → T (fits f y) → 0 < den x → num x * sq (2 ^ low f) ≡ n * sq (2 ^ k) * den x → accepts (prec f) n s ≡ true → HasValue y false (s * up (minus k (low f))) (down (minus k (low f))) → y ≡ sqrtOf f x
-accepted-sqrt f x y n k s p t u c e a v = sqrt-only f x y s (minus k (low f)) p t u (accepted-rule (prec f) (num x) (den x) n k (low f) s c e a) v
+pub accepted-sqrt : (f : Format) (x y : Float) (n k s : ℕ) → T (positive x) → T (fits f x) → T (fits f y) → num x * sq (2 ^ low f) ≡ n * sq (2 ^ k) * den x → accepts (prec f) n s ≡ true → HasValue y false (s * up (minus k (low f))) (down (minus k (low f))) → y ≡ sqrtOf f x
+accepted-sqrt f x y n k s p t u e a v = sqrt-only f x y s (minus k (low f)) p t u (accepted-rule (prec f) (num x) (den x) n k (low f) s (den-pos x) e a) v

@@ -1,5 +1,6 @@
 -- `root::near_root` meets its contract: what the test accepts is the whole number next to the root, whoever proposed it; else, with r the whole part, n is past the half exactly where n - r * r is above r. Assumes nothing.
-use mathlib.Core.Path.{sym, _∙_}
+use mathlib.Core.Path.{_≡_, sym, _∙_}
+use mathlib.Core.Bool.{true}
 use native.Mathlib.Omega.{arith}
 use borrow.Author.Needs.{needs}
 use Rattle.numbers.proofs.Accepted.{accepted-root}
@@ -17,7 +18,9 @@ accepts-root-requires : tie.Need-accepts-root-requires
 accepts-root-requires c κs = search needs
 
 returns : tie.Need-returns
-returns c = accepted-root 24 _ _ (sym (c .before .accepts-root .ensures) ∙ c .if1 .taken)
+returns c =
+    let h : c .before .accepts-root .result ≡ true = c .if1 .taken in
+    accepted-root 24 _ _ (sym (c .before .accepts-root .ensures) ∙ h)
 
 by-digits-requires : tie.Need-by-digits-requires
 by-digits-requires c κs = search needs
