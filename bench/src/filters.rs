@@ -1,11 +1,12 @@
 //! Predict, correct and the chain of both, at one size: ours, the original over arrays of known size,
-//! and the original over slices.
+//! the original over slices, and Eigen's filters where Eigen is there.
 
+use crate::eigen;
 use crate::model::{model, Model, READINGS};
 use crate::ours;
 use crate::report::{Figure, Kind};
 use crate::same;
-use crate::timing::{in_turns, Plan};
+use crate::timing::Plan;
 use minikalman::held::Held;
 use minikalman::kalman::regular::RegularKalmanBuilder;
 use minikalman::lent::Lent;
@@ -158,8 +159,9 @@ pub fn run<const N: usize, const M: usize, const NN: usize, const MN: usize, con
     let (mut filter, mut seen) = over_arrays!(from);
     let mut lent = buffers(&from);
     let (mut slices, mut slices_seen) = over_slices!(lent);
+    let mut both = eigen::both(&from)?;
 
-    let times = in_turns(
+    let times = eigen::in_turns_with(
         plan,
         [
             &mut |count| {
@@ -187,10 +189,12 @@ pub fn run<const N: usize, const M: usize, const NN: usize, const MN: usize, con
                 }
             },
         ],
+        &mut both,
+        Kind::Predict,
     );
-    figures.push(Figure::at(Kind::Predict, N, M, times));
+    figures.push(Figure::filter(Kind::Predict, N, M, times));
 
-    let times = in_turns(
+    let times = eigen::in_turns_with(
         plan,
         [
             &mut |count| {
@@ -218,10 +222,12 @@ pub fn run<const N: usize, const M: usize, const NN: usize, const MN: usize, con
                 }
             },
         ],
+        &mut both,
+        Kind::Correct,
     );
-    figures.push(Figure::at(Kind::Correct, N, M, times));
+    figures.push(Figure::filter(Kind::Correct, N, M, times));
 
-    let times = in_turns(
+    let times = eigen::in_turns_with(
         plan,
         [
             &mut |count| {
@@ -251,7 +257,9 @@ pub fn run<const N: usize, const M: usize, const NN: usize, const MN: usize, con
                 }
             },
         ],
+        &mut both,
+        Kind::Chain,
     );
-    figures.push(Figure::at(Kind::Chain, N, M, times));
+    figures.push(Figure::filter(Kind::Chain, N, M, times));
     Ok(())
 }

@@ -3,6 +3,7 @@
 mod alone;
 mod any_rows;
 mod cards;
+mod eigen;
 mod filters;
 mod model;
 mod ours;

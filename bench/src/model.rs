@@ -48,9 +48,21 @@ impl Numbers {
     }
 }
 
-/// A symmetric matrix with `diagonal` and smaller numbers beside it: positive definite.
-pub fn covariance<const L: usize>(size: usize, diagonal: f32, from: &mut Numbers) -> [f32; L] {
-    let mut m = [0.0; L];
+/// Fills a dense matrix whose row sums are below 1.
+pub fn fill_transition(a: &mut [f32], size: usize, from: &mut Numbers) {
+    for i in 0..size {
+        for j in 0..size {
+            a[i * size + j] = if i == j {
+                0.85
+            } else {
+                0.1 / size as f32 * from.next()
+            };
+        }
+    }
+}
+
+/// Fills a symmetric matrix with `diagonal` and smaller numbers beside it: positive definite.
+pub fn fill_covariance(m: &mut [f32], size: usize, diagonal: f32, from: &mut Numbers) {
     for i in 0..size {
         for j in 0..i {
             let v = from.next() * diagonal * 0.4 / size as f32;
@@ -59,6 +71,12 @@ pub fn covariance<const L: usize>(size: usize, diagonal: f32, from: &mut Numbers
         }
         m[i * size + i] = diagonal * (1.0 + 0.25 * from.next());
     }
+}
+
+/// The same in an array of its own.
+pub fn covariance<const L: usize>(size: usize, diagonal: f32, from: &mut Numbers) -> [f32; L] {
+    let mut m = [0.0; L];
+    fill_covariance(&mut m, size, diagonal, from);
     m
 }
 
@@ -66,15 +84,7 @@ pub fn model<const N: usize, const M: usize, const NN: usize, const MN: usize, c
 ) -> Model<N, M, NN, MN, MM> {
     let mut from = Numbers::new((N * 100 + M) as u64);
     let mut a = [0.0; NN];
-    for i in 0..N {
-        for j in 0..N {
-            a[i * N + j] = if i == j {
-                0.85
-            } else {
-                0.1 / N as f32 * from.next()
-            };
-        }
-    }
+    fill_transition(&mut a, N, &mut from);
     Model {
         x: std::array::from_fn(|_| 1.0 + from.next()),
         a,

@@ -22,6 +22,8 @@ pub struct Figure {
     pub ours: Times,
     pub arrays: Times,
     pub slices: Option<Times>,
+    /// With sizes fixed at compile time, with sizes at run time.
+    pub eigen: Option<[Times; 2]>,
 }
 
 impl Figure {
@@ -33,6 +35,20 @@ impl Figure {
             ours,
             arrays,
             slices: Some(slices),
+            eigen: None,
+        }
+    }
+
+    /// The same with Eigen beside it, where it is there.
+    pub fn filter(
+        kind: Kind,
+        n: usize,
+        m: usize,
+        (times, eigen): ([Times; 3], Option<[Times; 2]>),
+    ) -> Figure {
+        Figure {
+            eigen,
+            ..Figure::at(kind, n, m, times)
         }
     }
 
@@ -44,6 +60,7 @@ impl Figure {
             ours,
             arrays,
             slices: None,
+            eigen: None,
         }
     }
 
@@ -69,6 +86,32 @@ impl Figure {
     /// Whether the geometric mean is taken over it.
     fn counts(&self) -> bool {
         matches!(self.kind, Kind::Predict | Kind::Correct | Kind::Chain)
+    }
+
+    /// What table and file both have: nanoseconds with so many digits, how many times as fast with one
+    /// more, and `none` for a figure that is not there.
+    fn cells(&self, digits: usize, none: &str) -> [String; 9] {
+        let written = |times: Option<Times>, of: fn(Times) -> f64, digits: usize| match times {
+            Some(t) => format!("{:.digits$}", of(t)),
+            None => none.into(),
+        };
+        let time = |times| written(times, |t| t.median, digits);
+        let ratio = |times| written(times, |t| t.by_first, digits + 1);
+        let [fixed, at_run_time] = match self.eigen {
+            Some(both) => both.map(Some),
+            None => [None, None],
+        };
+        [
+            time(Some(self.ours)),
+            time(Some(self.arrays)),
+            time(self.slices),
+            ratio(Some(self.arrays)),
+            ratio(self.slices),
+            time(fixed),
+            time(at_run_time),
+            ratio(fixed),
+            ratio(at_run_time),
+        ]
     }
 }
 
@@ -127,22 +170,30 @@ impl Card {
     }
 }
 
+/// Eigen's columns are there where one of the figures has them.
 pub fn table(figures: &[Figure]) {
-    println!("| | ours, ns | original, arrays, ns | original, slices, ns | arrays / ours | slices / ours | arrays / ours, least |");
-    println!("|---|---|---|---|---|---|---|");
+    let mut heads = vec![
+        "ours, ns",
+        "original, arrays, ns",
+        "original, slices, ns",
+        "arrays / ours",
+        "slices / ours",
+    ];
+    if figures.iter().any(|f| f.eigen.is_some()) {
+        heads.extend([
+            "Eigen, fixed, ns",
+            "Eigen, run time, ns",
+            "fixed / ours",
+            "run time / ours",
+        ]);
+    }
+    println!("| | {} | arrays / ours, least |", heads.join(" | "));
+    println!("|---|{}---|", "---|".repeat(heads.len()));
     for f in figures {
-        let (slices, by) = match f.slices {
-            Some(s) => (format!("{:.1}", s.median), format!("{:.2}", s.by_first)),
-            None => ("".into(), "".into()),
-        };
         println!(
-            "| {} | {:.1} | {:.1} | {} | {:.2} | {} | {:.2} |",
+            "| {} | {} | {:.2} |",
             f.name(),
-            f.ours.median,
-            f.arrays.median,
-            slices,
-            f.ratio(),
-            by,
+            f.cells(1, "")[..heads.len()].join(" | "),
             f.arrays.least / f.ours.least
         );
     }
@@ -187,29 +238,22 @@ pub fn cards(cards: &[Card]) {
 
 /// The figures as lines with tabs, a heading first; a figure that is not there is `?`.
 pub fn lines(figures: &[Figure], rows: &[Row], cards: &[Card]) -> String {
-    let mut text = String::from("what\tours\tarrays\tslices\tby_arrays\tby_slices\n");
+    let mut text = String::from(
+        "what\tours\tarrays\tslices\tby_arrays\tby_slices\teigen_fixed\teigen_run_time\tby_eigen_fixed\tby_eigen_run_time\n",
+    );
     for f in figures {
-        let (slices, by) = match f.slices {
-            Some(s) => (format!("{:.2}", s.median), format!("{:.3}", s.by_first)),
-            None => ("?".into(), "?".into()),
-        };
-        let (ours, arrays) = (f.ours.median, f.arrays.median);
-        text += &format!(
-            "{}\t{ours:.2}\t{arrays:.2}\t{slices}\t{:.3}\t{by}\n",
-            f.name(),
-            f.ratio()
-        );
+        text += &format!("{}\t{}\n", f.name(), f.cells(2, "?").join("\t"));
     }
     for r in rows {
         text += &format!(
-            "row {}\t{:.2}\t{:.2}\t?\t{:.3}\t?\n",
+            "row {}\t{:.2}\t{:.2}\t?\t{:.3}\t?\t?\t?\t?\t?\n",
             r.what, r.one.median, r.arrays.median, r.arrays.by_first
         );
     }
     for c in cards {
         for (what, times) in [("read", c.read), ("written", c.written)] {
             text += &format!(
-                "card {what} ({}, {})\t{:.2}\t?\t?\t?\t?\n",
+                "card {what} ({}, {})\t{:.2}\t?\t?\t?\t?\t?\t?\t?\t?\n",
                 c.n, c.m, times.median
             );
         }
@@ -222,12 +266,31 @@ fn mean(ratios: impl Iterator<Item = f64>) -> f64 {
     (sum / count as f64).exp()
 }
 
-/// Prints the geometric mean and the bars; whether all are met.
-pub fn bars(figures: &[Figure], [_, correct, _]: &[Row; 3], cards: &[Card]) -> bool {
+/// What the chain is to reach at each size.
+const CHAINS: [(usize, usize, f64); 6] = [
+    (1, 1, 0.9),
+    (2, 1, 0.9),
+    (4, 2, 0.9),
+    (6, 3, 1.1),
+    (9, 3, 1.35),
+    (16, 16, 3.0),
+];
+
+/// Prints the geometric means and the bars; whether all are met.
+pub fn bars(figures: &[Figure], [_, row, _]: &[Row; 3], cards: &[Card]) -> bool {
     let counted = || figures.iter().filter(|f| f.counts());
     let over_arrays = mean(counted().map(Figure::ratio));
     let over_slices = mean(counted().filter_map(|f| Some(f.slices?.by_first)));
     println!("geometric mean over predict, correct and chain: {over_arrays:.2} against arrays, {over_slices:.2} against slices");
+    if counted().any(|f| f.eigen.is_some()) {
+        let over_eigen =
+            |which: usize| mean(counted().filter_map(|f| Some(f.eigen?[which].by_first)));
+        println!("the same against Eigen, sizes fixed: {:.2}", over_eigen(0));
+        println!(
+            "the same against Eigen, sizes at run time: {:.2}",
+            over_eigen(1)
+        );
+    }
     let mut all = true;
     let mut bar = |name: &str, value: f64, met: bool| {
         println!(
@@ -236,22 +299,29 @@ pub fn bars(figures: &[Figure], [_, correct, _]: &[Row; 3], cards: &[Card]) -> b
         );
         all &= met;
     };
+    let find = |kind: Kind, n: usize, m: usize| {
+        figures
+            .iter()
+            .find(move |f| (f.kind, f.n, f.m) == (kind, n, m))
+    };
+    for (n, m, least) in CHAINS {
+        if let Some(f) = find(Kind::Chain, n, m) {
+            bar(
+                &format!("chain ({n}, {m}) at least {least}"),
+                f.ratio(),
+                f.ratio() >= least,
+            );
+        }
+    }
     bar(
-        "geometric mean at least 1.2",
+        "geometric mean at least 1.12",
         over_arrays,
-        over_arrays >= 1.2,
+        over_arrays >= 1.12,
     );
-    let least =
-        |of: &mut dyn Iterator<Item = &Figure>| of.map(Figure::ratio).fold(f64::INFINITY, f64::min);
-    let sixteen = least(&mut counted().filter(|f| f.n == 16));
-    bar(
-        "(16, 16) at least 2, the least of three",
-        sixteen,
-        sixteen >= 2.0,
-    );
-    let slowest = least(&mut counted());
-    bar("no figure below 0.67, the least", slowest, slowest >= 0.67);
-    if let Some(f) = figures.iter().find(|f| f.kind == Kind::OneCorrect) {
+    if let Some(f) = find(Kind::Correct, 1, 1) {
+        bar("correct (1, 1) at least 0.33", f.ratio(), f.ratio() >= 0.33);
+    }
+    if let Some(f) = find(Kind::OneCorrect, 1, 1) {
         let times = 1.0 / f.ratio();
         bar(
             "one-state correct at most 1.8 times the original's",
@@ -259,22 +329,10 @@ pub fn bars(figures: &[Figure], [_, correct, _]: &[Row; 3], cards: &[Card]) -> b
             times <= 1.8,
         );
     }
-    if let Some(f) = figures.iter().find(|f| f.kind == Kind::Root) {
-        let time = f.ours.median;
-        bar("a root in at most 5.5 ns", time, time <= 5.5);
-    }
-    let decomposed = |f: &&Figure| f.kind == Kind::Decomposition && f.n == 16;
-    if let Some(f) = figures.iter().find(decomposed) {
-        bar(
-            "decomposition at 16 at least as fast as the original's",
-            f.ratio(),
-            f.ratio() >= 1.0,
-        );
-    }
     bar(
         "a row's correct at least 1.0 times as fast as twelve calls, within 0.02",
-        correct.ratio(),
-        correct.ratio() >= 0.98,
+        row.ratio(),
+        row.ratio() >= 0.98,
     );
     if let [_, small, .., largest] = cards {
         let microseconds = largest.read.median / 1000.0;
@@ -294,6 +352,17 @@ pub fn bars(figures: &[Figure], [_, correct, _]: &[Row; 3], cards: &[Card]) -> b
             "a card of (16, 16) written in less than 10 microseconds",
             microseconds,
             microseconds < 10.0,
+        );
+    }
+    if let Some(f) = find(Kind::Root, 1, 1) {
+        let time = f.ours.median;
+        bar("a root in at most 5.5 ns", time, time <= 5.5);
+    }
+    if let Some(f) = find(Kind::Decomposition, 16, 16) {
+        bar(
+            "decomposition at 16 at least as fast as the original's",
+            f.ratio(),
+            f.ratio() >= 1.0,
         );
     }
     all

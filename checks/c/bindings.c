@@ -181,6 +181,29 @@ static void each_entry(const struct function *f) {
                 one_entry(f, n, e);
 }
 
+/* The filter's functions, which head the table. */
+static int is_filters(const struct function *f) { return f - functions < 6; }
+
+/* The sizes that have lines of their own, often: predict and correct take these there, and the
+   functions of their steps the general way. */
+static void own_lines(const struct function *f) {
+    static const size_t sizes[][2] = {{1, 1}, {2, 1}, {4, 2}};
+    size_t i, round;
+    int kind;
+    struct call c;
+    if (!is_filters(f))
+        return;
+    memset(&c, 0, sizeof c);
+    for (i = 0; i < sizeof sizes / sizeof sizes[0]; i++) {
+        memcpy(c.size, sizes[i], sizeof sizes[i]);
+        for (round = 0; round < 300; round++)
+            for (kind = 0; kind < KINDS; kind++) {
+                lend(f, &c, (enum kind)kind, round % 4);
+                make(f, &c);
+            }
+    }
+}
+
 static void good_sizes(const struct function *f, struct call *c, size_t round) {
     size_t k;
     memset(c, 0, sizeof *c);
@@ -322,6 +345,7 @@ int main(void) {
         told = 0;
         good_input(&functions[i]);
         each_entry(&functions[i]);
+        own_lines(&functions[i]);
         for (round = 0; round < 30; round++) {
             bad_sizes(&functions[i], round);
             short_buffers(&functions[i], round);

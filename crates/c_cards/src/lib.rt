@@ -45,7 +45,7 @@ pub extern "C" fn yurgamysh_card_write(
 ) -> usize
     ensures { λ code. ⌜ Told (λ v. CardOut binary32 8 states observations (now (a .entry)) (now (q .entry)) (now (h .entry)) (now (r .entry)) (now (card .entry)) (now (length .entry)) v (now (card .exit)) (now (length .exit))) code ⌝ }
 {
-    match cards::write(states, observations, a, q, h, r, card) {
+    match cards::write(states, observations, &*a, &*q, &*h, &*r, card) {
         Written::Length(l) => {
             *length = l;
             0

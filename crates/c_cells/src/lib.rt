@@ -22,7 +22,7 @@ pub extern "C" fn yurgamysh_get(
 ) -> usize
     ensures { λ code. ⌜ Told (λ v. GotInto rows cols (now (m .entry)) row column (now (value .entry)) v (now (value .exit))) code ⌝ }
 {
-    match row_major::get(rows, cols, m, row, column) {
+    match row_major::get(rows, cols, &*m, row, column) {
         Read::Value(x) => {
             *value = x;
             0
@@ -71,7 +71,7 @@ pub extern "C" fn yurgamysh_get_row_copy(
 ) -> usize
     ensures { λ code. ⌜ Told (λ v. RowCopied rows cols (now (m .entry)) row (now («row_data» .entry)) v (now («row_data» .exit))) code ⌝ }
 {
-    c_codes::code_of(row_major::get_row_copy(rows, cols, m, row, row_data))
+    c_codes::code_of(row_major::get_row_copy(rows, cols, &*m, row, row_data))
 }
 
 // A column of the rows by cols matrix m in the first rows cells of column_data.
@@ -85,7 +85,7 @@ pub extern "C" fn yurgamysh_get_column_copy(
 ) -> usize
     ensures { λ code. ⌜ Told (λ v. ColumnCopied rows cols (now (m .entry)) column (now («column_data» .entry)) v (now («column_data» .exit))) code ⌝ }
 {
-    c_codes::code_of(row_major::get_column_copy(rows, cols, m, column, column_data))
+    c_codes::code_of(row_major::get_column_copy(rows, cols, &*m, column, column_data))
 }
 
 // The rows by cols matrix m in the first rows·cols cells of target.
@@ -98,7 +98,7 @@ pub extern "C" fn yurgamysh_copy_to(
 ) -> usize
     ensures { λ code. ⌜ Told (λ v. Copied rows cols (now (m .entry)) (now (target .entry)) v (now (target .exit))) code ⌝ }
 {
-    c_codes::code_of(row_major::copy_to(rows, cols, m, target))
+    c_codes::code_of(row_major::copy_to(rows, cols, &*m, target))
 }
 
 // x in every cell of the rows by cols matrix.

@@ -20,7 +20,7 @@ pub extern "C" fn yurgamysh_innovation(
 ) -> usize
     ensures { λ code. ⌜ Told (λ v. Innovated binary32 n m (now (x .entry)) (now (h .entry)) (now (z .entry)) (now (y .entry)) v (now (y .exit))) code ⌝ }
 {
-    c_codes::code_of(innovations::innovation(n, m, x, h, z, y))
+    c_codes::code_of(innovations::innovation(n, m, &*x, &*h, &*z, y))
 }
 
 // x and P after an observation whose innovation is y. Or the first pivot that is not above zero, or not
@@ -51,9 +51,9 @@ pub extern "C" fn yurgamysh_update(
         m,
         x,
         p,
-        h,
-        r,
-        y,
+        &*h,
+        &*r,
+        &*y,
         s,
         k,
         temp_s_inv,
@@ -91,9 +91,9 @@ pub extern "C" fn yurgamysh_correct(
         m,
         x,
         p,
-        h,
-        z,
-        r,
+        &*h,
+        &*z,
+        &*r,
         y,
         s,
         k,

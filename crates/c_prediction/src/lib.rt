@@ -19,7 +19,7 @@ pub extern "C" fn yurgamysh_predict(
 ) -> usize
     ensures { λ code. ⌜ Told (λ v. Predicted binary32 n (now (x .entry)) (now (a .entry)) (now (p .entry)) (now (q .entry)) (now (predicted .entry)) (now (temp .entry)) v (now (x .exit)) (now (p .exit)) (now (predicted .exit)) (now (temp .exit))) code ⌝ }
 {
-    c_codes::code_of(kalman::predict(n, x, a, p, q, predicted, temp))
+    c_codes::code_of(kalman::predict(n, x, &*a, p, &*q, predicted, temp))
 }
 
 // x becomes A·x, which predicted_x holds too.
@@ -32,7 +32,7 @@ pub extern "C" fn yurgamysh_predict_x(
 ) -> usize
     ensures { λ code. ⌜ Told (λ v. PredictedX binary32 n (now (x .entry)) (now (a .entry)) (now (predicted .entry)) v (now (x .exit)) (now (predicted .exit))) code ⌝ }
 {
-    c_codes::code_of(kalman::predict_x(n, x, a, predicted))
+    c_codes::code_of(kalman::predict_x(n, x, &*a, predicted))
 }
 
 // P becomes A·P·Aᵀ + Q; temp_P holds A·P.
@@ -46,5 +46,5 @@ pub extern "C" fn yurgamysh_predict_p(
 ) -> usize
     ensures { λ code. ⌜ Told (λ v. PredictedP binary32 n (now (a .entry)) (now (p .entry)) (now (q .entry)) (now (temp .entry)) v (now (p .exit)) (now (temp .exit))) code ⌝ }
 {
-    c_codes::code_of(kalman::predict_p(n, a, p, q, temp))
+    c_codes::code_of(kalman::predict_p(n, &*a, p, &*q, temp))
 }

@@ -15,7 +15,7 @@ pub extern "C" fn yurgamysh_mult(
 ) -> usize
     ensures { λ code. ⌜ Told (λ v. Multiplied binary32 rows inner cols (now (a .entry)) (now (b .entry)) (now (c .entry)) v (now (c .exit))) code ⌝ }
 {
-    c_codes::code_of(products::mult(rows, inner, cols, a, b, c))
+    c_codes::code_of(products::mult(rows, inner, cols, &*a, &*b, c))
 }
 
 // c = a·b, and aux ends with column 0 of b.
@@ -31,7 +31,7 @@ pub extern "C" fn yurgamysh_mult_buffered(
 ) -> usize
     ensures { λ code. ⌜ Told (λ v. Buffered binary32 rows inner cols (now (a .entry)) (now (b .entry)) (now (c .entry)) (now (aux .entry)) v (now (c .exit)) (now (aux .exit))) code ⌝ }
 {
-    c_codes::code_of(products::mult_buffered(rows, inner, cols, a, b, c, aux))
+    c_codes::code_of(products::mult_buffered(rows, inner, cols, &*a, &*b, c, aux))
 }
 
 // c = a·bᵀ, a of rows by inner and b of cols by inner.
@@ -46,7 +46,7 @@ pub extern "C" fn yurgamysh_mult_transb(
 ) -> usize
     ensures { λ code. ⌜ Told (λ v. MultipliedT binary32 rows inner cols (now (a .entry)) (now (b .entry)) (now (c .entry)) v (now (c .exit))) code ⌝ }
 {
-    c_codes::code_of(products::mult_transb(rows, inner, cols, a, b, c))
+    c_codes::code_of(products::mult_transb(rows, inner, cols, &*a, &*b, c))
 }
 
 // c = c + a·bᵀ.
@@ -61,7 +61,7 @@ pub extern "C" fn yurgamysh_multadd_transb(
 ) -> usize
     ensures { λ code. ⌜ Told (λ v. AddedT binary32 rows inner cols (now (a .entry)) (now (b .entry)) (now (c .entry)) v (now (c .exit))) code ⌝ }
 {
-    c_codes::code_of(products::multadd_transb(rows, inner, cols, a, b, c))
+    c_codes::code_of(products::multadd_transb(rows, inner, cols, &*a, &*b, c))
 }
 
 // c = a·bᵀ·scale.
@@ -77,7 +77,7 @@ pub extern "C" fn yurgamysh_multscale_transb(
 ) -> usize
     ensures { λ code. ⌜ Told (λ v. ScaledT binary32 rows inner cols (now (a .entry)) (now (b .entry)) scale (now (c .entry)) v (now (c .exit))) code ⌝ }
 {
-    c_codes::code_of(products::multscale_transb(rows, inner, cols, a, b, scale, c))
+    c_codes::code_of(products::multscale_transb(rows, inner, cols, &*a, &*b, scale, c))
 }
 
 // c = a·x, a of rows by inner, x of inner numbers and c of rows numbers.
@@ -91,7 +91,7 @@ pub extern "C" fn yurgamysh_mult_rowvector(
 ) -> usize
     ensures { λ code. ⌜ Told (λ v. RowMultiplied binary32 rows inner (now (a .entry)) (now (x .entry)) (now (c .entry)) v (now (c .exit))) code ⌝ }
 {
-    c_codes::code_of(products::mult_rowvector(rows, inner, a, x, c))
+    c_codes::code_of(products::mult_rowvector(rows, inner, &*a, &*x, c))
 }
 
 // c = c + a·x.
@@ -105,5 +105,5 @@ pub extern "C" fn yurgamysh_multadd_rowvector(
 ) -> usize
     ensures { λ code. ⌜ Told (λ v. RowAdded binary32 rows inner (now (a .entry)) (now (x .entry)) (now (c .entry)) v (now (c .exit))) code ⌝ }
 {
-    c_codes::code_of(products::multadd_rowvector(rows, inner, a, x, c))
+    c_codes::code_of(products::multadd_rowvector(rows, inner, &*a, &*x, c))
 }

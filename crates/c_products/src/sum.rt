@@ -14,7 +14,7 @@ pub extern "C" fn yurgamysh_sub(
 ) -> usize
     ensures { λ code. ⌜ Told (λ v. Combined (sub binary32) rows cols (now (a .entry)) (now (b .entry)) (now (c .entry)) v (now (c .exit))) code ⌝ }
 {
-    c_codes::code_of(sums::sub(rows, cols, a, b, c))
+    c_codes::code_of(sums::sub(rows, cols, &*a, &*b, c))
 }
 
 // a − b in a.
@@ -27,7 +27,7 @@ pub extern "C" fn yurgamysh_sub_inplace_a(
 ) -> usize
     ensures { λ code. ⌜ Told (λ v. InPlace (sub binary32) rows cols (now (a .entry)) (now (b .entry)) (now (a .entry)) v (now (a .exit))) code ⌝ }
 {
-    c_codes::code_of(sums::sub_inplace_a(rows, cols, a, b))
+    c_codes::code_of(sums::sub_inplace_a(rows, cols, a, &*b))
 }
 
 // a − b, and not b − a, in b.
@@ -40,7 +40,7 @@ pub extern "C" fn yurgamysh_sub_inplace_b(
 ) -> usize
     ensures { λ code. ⌜ Told (λ v. InPlace (sub binary32) rows cols (now (a .entry)) (now (b .entry)) (now (b .entry)) v (now (b .exit))) code ⌝ }
 {
-    c_codes::code_of(sums::sub_inplace_b(rows, cols, a, b))
+    c_codes::code_of(sums::sub_inplace_b(rows, cols, &*a, b))
 }
 
 // a + b in a.
@@ -53,7 +53,7 @@ pub extern "C" fn yurgamysh_add_inplace_a(
 ) -> usize
     ensures { λ code. ⌜ Told (λ v. InPlace (add binary32) rows cols (now (a .entry)) (now (b .entry)) (now (a .entry)) v (now (a .exit))) code ⌝ }
 {
-    c_codes::code_of(sums::add_inplace_a(rows, cols, a, b))
+    c_codes::code_of(sums::add_inplace_a(rows, cols, a, &*b))
 }
 
 // a + b in b.
@@ -66,5 +66,5 @@ pub extern "C" fn yurgamysh_add_inplace_b(
 ) -> usize
     ensures { λ code. ⌜ Told (λ v. InPlace (add binary32) rows cols (now (a .entry)) (now (b .entry)) (now (b .entry)) v (now (b .exit))) code ⌝ }
 {
-    c_codes::code_of(sums::add_inplace_b(rows, cols, a, b))
+    c_codes::code_of(sums::add_inplace_b(rows, cols, &*a, b))
 }

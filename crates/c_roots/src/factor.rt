@@ -18,5 +18,5 @@ pub extern "C" fn yurgamysh_cholesky_decompose_lower(n: usize, t: &mut [f32]) ->
 pub extern "C" fn yurgamysh_invert_l_cholesky(n: usize, l: &[f32], inv: &mut [f32]) -> usize
     ensures { λ code. ⌜ Told (λ v. Inverted binary32 n (now (l .entry)) (now (inv .entry)) v (now (inv .exit))) code ⌝ }
 {
-    c_codes::code_of(inverse::invert_l_cholesky(n, l, inv))
+    c_codes::code_of(inverse::invert_l_cholesky(n, &*l, inv))
 }

@@ -36,7 +36,7 @@ fn write_met(
     bytes: &mut [u8],
 ) -> Seen {
     lend_bytes(bytes);
-    let w = said_by(cards::write(n, m, a, q, h, r, bytes));
+    let w = said_by(cards::write(n, m, &*a, &*q, &*h, &*r, bytes));
     written_met(o, text, w.code, w.length, bytes)
 }
 
@@ -57,7 +57,7 @@ fn write_into(
     if bytes.len() < lent {
         return seen::nothing(lines::LOST);
     }
-    write_met(o, text, n, m, a, q, h, r, &mut bytes[0..lent])
+    write_met(o, text, n, m, &*a, &*q, &*h, &*r, &mut bytes[0..lent])
 }
 
 // Writes the matrices three times: into more bytes than the text has, into as many, and into one less.
@@ -76,9 +76,9 @@ fn thrice(
     if len == 0 || 9260 < len {
         return seen::nothing(lines::LOST);
     }
-    let longer = write_into(o, text, len + 20, n, m, a, q, h, r);
-    let exact = write_into(longer, text, len, n, m, a, q, h, r);
-    write_into(exact, text, len - 1, n, m, a, q, h, r)
+    let longer = write_into(o, text, len + 20, n, m, &*a, &*q, &*h, &*r);
+    let exact = write_into(longer, text, len, n, m, &*a, &*q, &*h, &*r);
+    write_into(exact, text, len - 1, n, m, &*a, &*q, &*h, &*r)
 }
 
 // Writes the matrices: what the comparison with the card and with the words at a position finds.
@@ -101,7 +101,7 @@ fn again_from(
     }
     let next = expect(s, at, card, &mut text[0..len]);
     let made = &text[..];
-    thrice(seen::nothing(next), &made[0..len], n, m, a, q, h, r)
+    thrice(seen::nothing(next), &made[0..len], n, m, &*a, &*q, &*h, &*r)
 }
 
 // The same of buffers of these lengths, each at most 272; with more the line is lost.

@@ -18,5 +18,5 @@ pub fn put_entries_line(into: &mut [u8], at: usize, key: &[u8], x: &[f32], k: us
     ensures put { λ _. ⌜ now (into .exit) ≡ sets (now (into .entry)) at (line (now (key .entry)) (entriesText 8 (patterns binary32 k (now (x .entry)))) []) ⌝ }
 {
     let p = put_bytes(into, at, key);
-    put_entries(into, p, x, k)
+    put_entries(into, p, &*x, k)
 }

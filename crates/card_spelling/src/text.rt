@@ -17,8 +17,8 @@ pub fn put_card(into: &mut [u8], n: usize, m: usize, a: &[f32], q: &[f32], h: &[
     let at_states = put_count_line(into, 0, b"edition=", 1);
     let at_observations = put_count_line(into, at_states, b"states=", n);
     let at_a = put_count_line(into, at_observations, b"observations=", m);
-    let at_q = put_entries_line(into, at_a, b"a=", a, n * n);
-    let at_h = put_entries_line(into, at_q, b"q=", q, n * n);
-    let at_r = put_entries_line(into, at_h, b"h=", h, m * n);
-    put_entries_line(into, at_r, b"r=", r, m * m);
+    let at_q = put_entries_line(into, at_a, b"a=", &*a, n * n);
+    let at_h = put_entries_line(into, at_q, b"q=", &*q, n * n);
+    let at_r = put_entries_line(into, at_h, b"h=", &*h, m * n);
+    put_entries_line(into, at_r, b"r=", &*r, m * m);
 }

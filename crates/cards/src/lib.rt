@@ -69,7 +69,7 @@ pub fn write(
             let matrices = room(n, m, a.len(), q.len(), h.len(), r.len());
             let all = answers::then_buffer(matrices, 4, l, card.len());
             if answers::is_done(all) {
-                put_card(card, n, m, a, q, h, r);
+                put_card(card, n, m, &*a, &*q, &*h, &*r);
                 Written::Length(l)
             } else {
                 Written::Refused(all)

@@ -28,10 +28,10 @@ pub fn update_cells(
         (buffers (now (x .entry)) (now (p .entry)) (now (h .entry)) [] (now (r .entry)) (now (y .entry)) (now (s .entry)) (now (k .entry)) (now («temp_s_inv» .entry)) (now («temp_hp» .entry)) (now («temp_pht» .entry)) (now («temp_khp» .entry)))
         (buffers (now (x .exit)) (now (p .exit)) (now (h .entry)) [] (now (r .entry)) (now (y .entry)) (now (s .exit)) (now (k .exit)) (now («temp_s_inv» .exit)) (now («temp_hp» .exit)) (now («temp_pht» .exit)) (now («temp_khp» .exit))) ⌝ }
 {
-    let i = updates::residual_cells(n, m, p, h, r, s, temp_hp);
+    let i = updates::residual_cells(n, m, p, &*h, &*r, s, temp_hp);
     if i < m {
         return Answer::Pivot(i);
     }
-    updates::gain_cells(n, m, p, h, s, k, temp_s_inv, temp_pht);
-    renewals::renew_cells(n, m, x, p, y, k, temp_hp, temp_khp)
+    updates::gain_cells(n, m, p, &*h, s, k, temp_s_inv, temp_pht);
+    renewals::renew_cells(n, m, x, p, &*y, k, temp_hp, temp_khp)
 }

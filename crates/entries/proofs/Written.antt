@@ -30,7 +30,7 @@ sum-alike : (f : Format) (x y u v : ℕ → Float) (n : ℕ) → ((k : ℕ) → 
 sum-alike f x y u v n p q = sum-same f plus0 (products f x y) (products f u v) n (λ k h. ap₂ (mul f) (p k h) (q k h))
 
 -- The same for sums that start with their first term.
-first-alike : (f : Format) (x y u v : ℕ → Float) (n : ℕ) → ((k : ℕ) → k < n → x k ≡ u k) → ((k : ℕ) → k < n → y k ≡ v k) → sumFirst f (products f x y) n ≡ sumFirst f (products f u v) n
+pub first-alike : (f : Format) (x y u v : ℕ → Float) (n : ℕ) → ((k : ℕ) → k < n → x k ≡ u k) → ((k : ℕ) → k < n → y k ≡ v k) → sumFirst f (products f x y) n ≡ sumFirst f (products f u v) n
 first-alike f x y u v zero p q = refl
 first-alike f x y u v (suc n) p q =
     ap (λ (s : Float). sumFrom f s (λ k. products f x y (suc k)) n) (ap₂ (mul f) (p 0 (omega arith)) (q 0 (omega arith)))

@@ -6,6 +6,7 @@ pub mod Steps
 pub mod CorrectionFits
 pub mod Verdict
 pub mod Calls
+pub mod Straight
 pub mod Exactly
 pub mod Theorems
 pub mod Refused

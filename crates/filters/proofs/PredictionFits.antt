@@ -16,6 +16,7 @@ pub record ShapeX (n x a px : ℕ) : Type 0 where
 
 pub record ShapeP (n a p q temp : ℕ) : Type 0 where
   pub least : 1 ≤ n
+  pub most : n ≤ 16
   pub holds-a : n * n ≤ a
   pub holds-p : n * n ≤ p
   pub holds-q : n * n ≤ q
@@ -31,7 +32,7 @@ pub p-fits : (n a p q temp : ℕ) → isDone (predictPAnswer n a p q temp) ≡ t
 unfolding predictPAnswer
 p-fits n a p q temp e =
     let h = fit (n ∷ []) (lent (n * n) a ∷ lent (n * n) p ∷ lent (n * n) q ∷ lent (n * n) temp ∷ []) [] e in
-    record { least = h .0 .0; holds-a = h .1 .0; holds-p = h .1 .1 .0; holds-q = h .1 .1 .1 .0; holds-temp = h .1 .1 .1 .1 .0 }
+    record { least = h .0 .0; most = h .0 .1; holds-a = h .1 .0; holds-p = h .1 .1 .0; holds-q = h .1 .1 .1 .0; holds-temp = h .1 .1 .1 .1 .0 }
 
 pub both-fit : (n x a p q px temp : ℕ) → isDone (predictAnswer n x a p q px temp) ≡ true → ShapeX n x a px × ShapeP n a p q temp
 unfolding predictAnswer
@@ -39,5 +40,5 @@ both-fit n x a p q px temp e =
     let h = fit (n ∷ []) (lent n x ∷ lent (n * n) a ∷ lent (n * n) p ∷ lent (n * n) q ∷ lent n px ∷ lent (n * n) temp ∷ []) [] e in
     let b = h .1 .1 .1 .1 in (
       record { least = h .0 .0; holds-x = h .1 .0; holds-a = h .1 .1 .0; holds-px = b .1 .0 },
-      record { least = h .0 .0; holds-a = h .1 .1 .0; holds-p = h .1 .1 .1 .0; holds-q = b .0; holds-temp = b .1 .1 .0 },
+      record { least = h .0 .0; most = h .0 .1; holds-a = h .1 .1 .0; holds-p = h .1 .1 .1 .0; holds-q = b .0; holds-temp = b .1 .1 .0 },
     )

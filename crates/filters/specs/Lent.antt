@@ -55,13 +55,14 @@ updateAnswer n m b = callAnswer (n ∷ m ∷ []) (frontOf n m b ++ fromROf n m b
 unfoldable pub innovationAnswer : ℕ → ℕ → ℕ → ℕ → ℕ → ℕ → Answer
 innovationAnswer n m lx lh lz ly = callAnswer (n ∷ m ∷ []) (lent n lx ∷ lent (m * n) lh ∷ lent m lz ∷ lent m ly ∷ []) []
 
--- ---- what the work below the gates asks: sizes above zero, no more states than a local array has numbers, and each buffer has its matrix' cells
+-- ---- what the work below the gates asks: sizes of 1 to 16, and each buffer has its matrix' cells
 
 -- of an update
 pub record Held (n m : ℕ) (b : Buffers) : Type 0 where
   pub states : 1 ≤ n
   pub few-states : n ≤ 16
   pub observations : 1 ≤ m
+  pub few-observations : m ≤ 16
   pub x-holds : n ≤ length (b .x)
   pub P-holds : n * n ≤ length (b .P)
   pub H-holds : m * n ≤ length (b .H)

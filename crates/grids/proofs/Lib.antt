@@ -3,6 +3,7 @@ pub mod Grids
 pub mod Calls
 pub mod Loops
 pub mod Turns
+pub mod Overlap
 pub mod Steps
 pub mod Diagonals
 pub mod Shapes

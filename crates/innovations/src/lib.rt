@@ -13,7 +13,7 @@ pub fn innovation(n: usize, m: usize, x: &[f32], h: &[f32], z: &[f32], y: &mut [
 {
     let v = observation_gates::innovation(n, m, x.len(), h.len(), z.len(), y.len());
     if answers::is_done(v) {
-        updates::innovate_cells(n, m, x, h, z, y);
+        updates::innovate_cells(n, m, &*x, &*h, &*z, y);
     }
     v
 }
@@ -63,9 +63,9 @@ pub fn update_with_innovation(
             m,
             x,
             p,
-            h,
-            r,
-            y,
+            &*h,
+            &*r,
+            &*y,
             s,
             k,
             temp_s_inv,

@@ -13,6 +13,6 @@ pub fn invert_cells(n: usize, l: &[f32], inv: &mut [f32])
     requires { ⌜ (n * n ≤ length (now l)) × (n * n ≤ length (now inv)) ⌝ }
     ensures { λ _. ⌜ now (inv .exit) ≡ grid n n (inverse binary32 n (cell n (now (l .entry))) (cell n (now (inv .entry)))) (now (inv .entry)) ⌝ }
 {
-    first_pass::solve(n, l, inv);
-    second_pass::solve_back(n, l, inv);
+    first_pass::solve(n, &*l, inv);
+    second_pass::solve_back(n, &*l, inv);
 }

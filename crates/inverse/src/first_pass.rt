@@ -21,7 +21,7 @@ fn solve_column(n: usize, i: usize, l: &[f32], inv: &mut [f32])
     let d = data_type::recip(l[i * n + i]);
     let mut j: usize = 0;
     while j <= i {
-        let sum = inner_sums::plus_dot(unit(i, j), l, i * n + j, 1, inv, j * n + j, i - j);
+        let sum = inner_sums::plus_dot(unit(i, j), &*l, i * n + j, 1, inv, j * n + j, i - j);
         inv[j * n + i] = sum * d;
         j += 1;
     }
@@ -34,7 +34,7 @@ pub fn solve(n: usize, l: &[f32], inv: &mut [f32])
 {
     let mut i: usize = 0;
     while i < n {
-        solve_column(n, i, l, inv);
+        solve_column(n, i, &*l, inv);
         i += 1;
     }
 }

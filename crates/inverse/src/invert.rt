@@ -12,7 +12,7 @@ pub fn invert_l_cholesky(n: usize, l: &[f32], inv: &mut [f32]) -> Answer
 {
     let v = gates::squares(n, l.len(), inv.len());
     if answers::is_done(v) {
-        cores::invert_cells(n, l, inv);
+        cores::invert_cells(n, &*l, inv);
     }
     v
 }

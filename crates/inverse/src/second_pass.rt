@@ -16,7 +16,7 @@ fn back_column(n: usize, i: usize, l: &[f32], inv: &mut [f32])
     while j <= i {
         let sum = inner_sums::plus_dot(
             inv[j * n + i],
-            l,
+            &*l,
             i * n + n + i,
             n,
             inv,
@@ -38,6 +38,6 @@ pub fn solve_back(n: usize, l: &[f32], inv: &mut [f32])
     let mut i = n;
     while 0 < i {
         i -= 1;
-        back_column(n, i, l, inv);
+        back_column(n, i, &*l, inv);
     }
 }

@@ -9,7 +9,7 @@ pub fn predict_x(n: usize, x: &mut [f32], a: &[f32], predicted: &mut [f32]) -> A
 {
     let v = prediction_gates::of_x(n, x.len(), a.len(), predicted.len());
     if answers::is_done(v) {
-        predictions::predict_x_cells(n, x, a, predicted);
+        predictions::predict_x_cells(n, x, &*a, predicted);
     }
     v
 }
@@ -20,7 +20,7 @@ pub fn predict_p(n: usize, a: &[f32], p: &mut [f32], q: &[f32], temp: &mut [f32]
 {
     let v = prediction_gates::of_p(n, a.len(), p.len(), q.len(), temp.len());
     if answers::is_done(v) {
-        predictions::predict_p_cells(n, a, p, q, temp);
+        predictions::predict_p_cells(n, &*a, p, &*q, temp);
     }
     v
 }
@@ -47,8 +47,7 @@ pub fn predict(
         temp.len(),
     );
     if answers::is_done(v) {
-        predictions::predict_x_cells(n, x, a, predicted);
-        predictions::predict_p_cells(n, a, p, q, temp);
+        prediction_cells::predict_cells(n, x, &*a, p, &*q, predicted, temp);
     }
     v
 }

@@ -10,7 +10,7 @@ pub fn mult(rows: usize, inner: usize, cols: usize, a: &[f32], b: &[f32], c: &mu
 {
     let v = gates::product(rows, inner, cols, a.len(), b.len(), c.len());
     if answers::is_done(v) {
-        times_matrix::mult_cells(rows, inner, cols, a, b, c);
+        times_matrix::mult_cells(rows, inner, cols, &*a, &*b, c);
     }
     v
 }
@@ -30,8 +30,8 @@ pub fn mult_buffered(
     let matrices = gates::product(rows, inner, cols, a.len(), b.len(), c.len());
     let v = answers::then_buffer(matrices, 3, inner, aux.len());
     if answers::is_done(v) {
-        times_matrix::mult_cells(rows, inner, cols, a, b, c);
-        cells::cores::copy_column(inner, cols, b, 0, aux);
+        times_matrix::mult_cells(rows, inner, cols, &*a, &*b, c);
+        cells::cores::copy_column(inner, cols, &*b, 0, aux);
     }
     v
 }

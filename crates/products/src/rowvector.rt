@@ -10,7 +10,7 @@ pub fn mult_rowvector(rows: usize, inner: usize, a: &[f32], x: &[f32], c: &mut [
 {
     let v = gates::row(rows, inner, a.len(), x.len(), c.len());
     if answers::is_done(v) {
-        times_vector::rowvector_cells(rows, inner, a, x, c);
+        times_vector::rowvector_cells(rows, inner, &*a, &*x, c);
     }
     v
 }
@@ -21,7 +21,7 @@ pub fn multadd_rowvector(rows: usize, inner: usize, a: &[f32], x: &[f32], c: &mu
 {
     let v = gates::row(rows, inner, a.len(), x.len(), c.len());
     if answers::is_done(v) {
-        times_vector::rowvector_add_cells(rows, inner, a, x, c);
+        times_vector::rowvector_add_cells(rows, inner, &*a, &*x, c);
     }
     v
 }

@@ -17,7 +17,7 @@ pub fn mult_transb(
 {
     let v = gates::product(rows, inner, cols, a.len(), b.len(), c.len());
     if answers::is_done(v) {
-        times_transpose::transb_cells(rows, inner, cols, a, b, c);
+        times_transpose::transb_cells(rows, inner, cols, &*a, &*b, c);
     }
     v
 }
@@ -35,7 +35,7 @@ pub fn multadd_transb(
 {
     let v = gates::product(rows, inner, cols, a.len(), b.len(), c.len());
     if answers::is_done(v) {
-        times_transpose::transb_add_cells(rows, inner, cols, a, b, c);
+        times_transpose::transb_add_cells(rows, inner, cols, &*a, &*b, c);
     }
     v
 }
@@ -54,7 +54,7 @@ pub fn multscale_transb(
 {
     let v = gates::product(rows, inner, cols, a.len(), b.len(), c.len());
     if answers::is_done(v) {
-        times_transpose::transb_scale_cells(rows, inner, cols, a, b, scale, c);
+        times_transpose::transb_scale_cells(rows, inner, cols, &*a, &*b, scale, c);
     }
     v
 }

@@ -30,10 +30,10 @@ pub fn read(j: Job, h: Head, a: &[f32], b: &mut [f32]) -> Got {
     let n = h.first;
     let c = h.second;
     match j {
-        Job::Get => cell(row_major::get(n, c, a, h.row, h.column)),
-        Job::GetRowCopy => told(row_major::get_row_copy(n, c, a, h.row, b)),
-        Job::GetColumnCopy => told(row_major::get_column_copy(n, c, a, h.column, b)),
-        Job::CopyTo => told(row_major::copy_to(n, c, a, b)),
+        Job::Get => cell(row_major::get(n, c, &*a, h.row, h.column)),
+        Job::GetRowCopy => told(row_major::get_row_copy(n, c, &*a, h.row, b)),
+        Job::GetColumnCopy => told(row_major::get_column_copy(n, c, &*a, h.column, b)),
+        Job::CopyTo => told(row_major::copy_to(n, c, &*a, b)),
         _ => told(Answer::Size(99)),
     }
 }

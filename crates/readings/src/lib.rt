@@ -47,14 +47,14 @@ pub fn correct(
         temp_khp.len(),
     );
     if answers::is_done(v) {
-        updates::innovate_cells(n, m, x, h, z, y);
-        return corrections::update_cells(
+        return reading_cells::correct_cells(
             n,
             m,
             x,
             p,
-            h,
-            r,
+            &*h,
+            &*z,
+            &*r,
             y,
             s,
             k,

@@ -24,15 +24,15 @@ pub fn renew_cells(
     temp_hp: &[f32],
     temp_khp: &mut [f32],
 ) -> Answer
-    requires { ⌜ (1 ≤ m) × (n ≤ 16) × (n ≤ length (now x)) × (n * n ≤ length (now p)) × (m ≤ length (now y)) × (n * m ≤ length (now k)) × (m * n ≤ length (now «temp_hp»)) × (n * n ≤ length (now «temp_khp»)) ⌝ }
+    requires { ⌜ (1 ≤ m) × (n ≤ 16) × (n ≤ length (now x)) × (n * n ≤ length (now p)) × (m ≤ length (now y)) × (n * m ≤ length (now k)) × (m * n ≤ length (now «temp_hp»)) × (n * n ≤ length (now «temp_khp»)) × (1 ≤ n) × (m ≤ 16) ⌝ }
     ensures answer { λ v. ⌜ v ≡ finiteAnswer n (newX binary32 m (cell m (now (k .entry))) (numbers (now (x .entry))) (numbers (now (y .entry)))) (λ i j. sub binary32 (cell n (now (p .entry)) i j) (times binary32 m (cell m (now (k .entry))) (cell n (now («temp_hp» .entry))) i j)) ⌝ }
     ensures x { λ v. ⌜ now (x .exit) ≡ settled v (run 0 n (newX binary32 m (cell m (now (k .entry))) (numbers (now (x .entry))) (numbers (now (y .entry)))) (now (x .entry))) (now (x .entry)) ⌝ }
     ensures khp { λ _. ⌜ now («temp_khp» .exit) ≡ grid n n (times binary32 m (cell m (now (k .entry))) (cell n (now («temp_hp» .entry)))) (now («temp_khp» .entry)) ⌝ }
     ensures p { λ v. ⌜ now (p .exit) ≡ settled v (grid n n (λ i j. sub binary32 (cell n (now (p .entry)) i j) (times binary32 m (cell m (now (k .entry))) (cell n (now («temp_hp» .entry))) i j)) (now (p .entry))) (now (p .entry)) ⌝ }
 {
     let mut ky = [0.0; 16];
-    times_vector::rowvector_cells(n, m, k, y, &mut ky);
-    times_matrix::mult_cells(n, m, n, k, temp_hp, temp_khp);
+    times_vector::rowvector_cells(n, m, &*k, &*y, &mut ky);
+    times_matrix::mult_cells(n, m, n, &*k, &*temp_hp, temp_khp);
     if finite::sums_finite(n, x, &ky) && finite::differences_finite(n * n, p, temp_khp) {
         sums::cores::add_cells_a(n, x, &ky);
         sums::cores::sub_cells_a(n * n, p, temp_khp);

@@ -32,7 +32,7 @@ pub fn get_column_copy(
     let buffers = answers::then_buffer(held, 1, rows, column_data.len());
     let v = answers::then_place(buffers, 1, column, cols);
     if answers::is_done(v) {
-        cores::copy_column(rows, cols, m, column, column_data);
+        cores::copy_column(rows, cols, &*m, column, column_data);
     }
     v
 }
@@ -43,7 +43,7 @@ pub fn copy_to(rows: usize, cols: usize, m: &[f32], target: &mut [f32]) -> Answe
 {
     let v = gates::pair(rows, cols, m.len(), target.len());
     if answers::is_done(v) {
-        cores::copy_cells(rows * cols, m, target);
+        cores::copy_cells(rows * cols, &*m, target);
     }
     v
 }

@@ -42,7 +42,7 @@ pub fn four_rows(inner: usize, a: &[f32], b: &[f32], r: usize, j: usize) -> Four
     };
     let mut k: usize = 0;
     while k < inner {
-        t = side_by_side::plus(t, side_by_side::times(a[left + k], b, right + k, inner));
+        t = side_by_side::plus(t, side_by_side::times(a[left + k], &*b, right + k, inner));
         k += 1;
     }
     t

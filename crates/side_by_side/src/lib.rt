@@ -12,7 +12,18 @@ pub struct Four {
     pub t3: f32,
 }
 
-// Sixteen of them, in fours.
+// Eight, twelve and sixteen of them, in fours.
+pub struct Eight {
+    pub f0: Four,
+    pub f1: Four,
+}
+
+pub struct Twelve {
+    pub f0: Four,
+    pub f1: Four,
+    pub f2: Four,
+}
+
 pub struct Sixteen {
     pub f0: Four,
     pub f1: Four,
@@ -110,6 +121,23 @@ pub fn put(c: &mut [f32], at: usize, t: Four)
     c[at + 1] = t.t1;
     c[at + 2] = t.t2;
     c[at + 3] = t.t3;
+}
+
+// Two numbers, in two cells of c from at upward.
+pub fn put_two(c: &mut [f32], at: usize, t0: f32, t1: f32)
+    requires { ⌜ at + 2 ≤ length (now c) ⌝ }
+    ensures { λ _. ⌜ now (c .exit) ≡ set (set (now (c .entry)) at t0) (at + 1) t1 ⌝ }
+{
+    c[at] = t0;
+    c[at + 1] = t1;
+}
+
+// Four numbers, in four cells of c from at upward.
+pub fn put_four(c: &mut [f32], at: usize, t0: f32, t1: f32, t2: f32, t3: f32)
+    requires { ⌜ at + 4 ≤ length (now c) ⌝ }
+    ensures { λ _. ⌜ now (c .exit) ≡ set (set (set (set (now (c .entry)) at t0) (at + 1) t1) (at + 2) t2) (at + 3) t3 ⌝ }
+{
+    put(c, at, Four { t0, t1, t2, t3 });
 }
 
 // The four, added to four cells of c from at upward.

@@ -13,7 +13,7 @@ pub fn sub(rows: usize, cols: usize, a: &[f32], b: &[f32], c: &mut [f32]) -> Ans
     let operands = gates::pair(rows, cols, a.len(), b.len());
     let v = answers::then_matrix(operands, 2, rows, cols, c.len());
     if answers::is_done(v) {
-        cores::sub_cells(rows * cols, a, b, c);
+        cores::sub_cells(rows * cols, &*a, &*b, c);
     }
     v
 }
@@ -24,7 +24,7 @@ pub fn sub_inplace_a(rows: usize, cols: usize, a: &mut [f32], b: &[f32]) -> Answ
 {
     let v = gates::pair(rows, cols, a.len(), b.len());
     if answers::is_done(v) {
-        cores::sub_cells_a(rows * cols, a, b);
+        cores::sub_cells_a(rows * cols, a, &*b);
     }
     v
 }
@@ -35,7 +35,7 @@ pub fn sub_inplace_b(rows: usize, cols: usize, a: &[f32], b: &mut [f32]) -> Answ
 {
     let v = gates::pair(rows, cols, a.len(), b.len());
     if answers::is_done(v) {
-        cores::sub_cells_b(rows * cols, a, b);
+        cores::sub_cells_b(rows * cols, &*a, b);
     }
     v
 }
@@ -46,7 +46,7 @@ pub fn add_inplace_a(rows: usize, cols: usize, a: &mut [f32], b: &[f32]) -> Answ
 {
     let v = gates::pair(rows, cols, a.len(), b.len());
     if answers::is_done(v) {
-        cores::add_cells_a(rows * cols, a, b);
+        cores::add_cells_a(rows * cols, a, &*b);
     }
     v
 }
@@ -57,7 +57,7 @@ pub fn add_inplace_b(rows: usize, cols: usize, a: &[f32], b: &mut [f32]) -> Answ
 {
     let v = gates::pair(rows, cols, a.len(), b.len());
     if answers::is_done(v) {
-        cores::add_cells_a(rows * cols, b, a);
+        cores::add_cells_a(rows * cols, b, &*a);
     }
     v
 }

@@ -14,11 +14,11 @@ fn transb_add_row(inner: usize, cols: usize, a: &[f32], b: &[f32], r: usize, c: 
     let at = r * cols;
     let mut j: usize = 0;
     while j + 4 <= cols {
-        side_by_side::add(c, at + j, row_totals::four_rows(inner, a, b, r, j));
+        side_by_side::add(c, at + j, row_totals::four_rows(inner, &*a, &*b, r, j));
         j += 4;
     }
     while j < cols {
-        c[at + j] = c[at + j] + row_totals::row_total(inner, a, b, r, j);
+        c[at + j] = c[at + j] + row_totals::row_total(inner, &*a, &*b, r, j);
         j += 1;
     }
 }
@@ -30,7 +30,7 @@ pub fn transb_add_cells(rows: usize, inner: usize, cols: usize, a: &[f32], b: &[
 {
     let mut r: usize = 0;
     while r < rows {
-        transb_add_row(inner, cols, a, b, r, c);
+        transb_add_row(inner, cols, &*a, &*b, r, c);
         r += 1;
     }
 }

@@ -25,12 +25,12 @@ fn transb_scale_row(
         side_by_side::put(
             c,
             at + j,
-            side_by_side::scaled(row_totals::four_rows(inner, a, b, r, j), scale),
+            side_by_side::scaled(row_totals::four_rows(inner, &*a, &*b, r, j), scale),
         );
         j += 4;
     }
     while j < cols {
-        c[at + j] = row_totals::row_total(inner, a, b, r, j) * scale;
+        c[at + j] = row_totals::row_total(inner, &*a, &*b, r, j) * scale;
         j += 1;
     }
 }
@@ -50,7 +50,7 @@ pub fn transb_scale_cells(
 {
     let mut r: usize = 0;
     while r < rows {
-        transb_scale_row(inner, cols, a, b, scale, r, c);
+        transb_scale_row(inner, cols, &*a, &*b, scale, r, c);
         r += 1;
     }
 }

@@ -32,10 +32,10 @@ fn four_from_first(inner: usize, a: &[f32], x: &[f32], r: usize) -> Four
         × (v .t3 ≡ rowProduct binary32 inner (now (a .entry)) (now (x .entry)) (r + 3)) ⌝ }
 {
     let row = r * inner;
-    let mut t = side_by_side::times(x[0], a, row, inner);
+    let mut t = side_by_side::times(x[0], &*a, row, inner);
     let mut k: usize = 1;
     while k < inner {
-        t = side_by_side::plus(t, side_by_side::times(x[k], a, row + k, inner));
+        t = side_by_side::plus(t, side_by_side::times(x[k], &*a, row + k, inner));
         k += 1;
     }
     t
@@ -48,11 +48,11 @@ pub fn rowvector_cells(rows: usize, inner: usize, a: &[f32], x: &[f32], c: &mut 
 {
     let mut r: usize = 0;
     while r + 4 <= rows {
-        side_by_side::put(c, r, four_from_first(inner, a, x, r));
+        side_by_side::put(c, r, four_from_first(inner, &*a, &*x, r));
         r += 4;
     }
     while r < rows {
-        c[r] = total_from_first(inner, a, x, r);
+        c[r] = total_from_first(inner, &*a, &*x, r);
         r += 1;
     }
 }
@@ -64,11 +64,11 @@ pub fn rowvector_add_cells(rows: usize, inner: usize, a: &[f32], x: &[f32], c: &
 {
     let mut r: usize = 0;
     while r + 4 <= rows {
-        side_by_side::add(c, r, four_from_first(inner, a, x, r));
+        side_by_side::add(c, r, four_from_first(inner, &*a, &*x, r));
         r += 4;
     }
     while r < rows {
-        c[r] = c[r] + total_from_first(inner, a, x, r);
+        c[r] = c[r] + total_from_first(inner, &*a, &*x, r);
         r += 1;
     }
 }

@@ -27,17 +27,17 @@ fn turn(inner: usize, cols: usize, b: &[f32], t: &mut [f32])
 {
     let mut k: usize = 0;
     while k < inner {
-        turn_column(inner, cols, b, k, t);
+        turn_column(inner, cols, &*b, k, t);
         k += 1;
     }
 }
 
-// The matrix, into c, for b of at most 256 numbers.
+// The matrix, into c, for b of four to sixteen rows and at most 256 numbers.
 pub fn turned_cells(rows: usize, inner: usize, cols: usize, a: &[f32], b: &[f32], c: &mut [f32])
-    requires { ⌜ (cols * inner ≤ 256) × (rows * inner ≤ length (now a)) × (cols * inner ≤ length (now b)) × (rows * cols ≤ length (now c)) ⌝ }
+    requires { ⌜ (4 ≤ cols) × (cols ≤ 16) × (cols * inner ≤ 256) × (rows * inner ≤ length (now a)) × (cols * inner ≤ length (now b)) × (rows * cols ≤ length (now c)) ⌝ }
     ensures { λ _. ⌜ now (c .exit) ≡ grid rows cols (productT binary32 inner (now (a .entry)) (now (b .entry))) (now (c .entry)) ⌝ }
 {
     let mut t: [f32; 256] = [0.0; 256];
-    turn(inner, cols, b, &mut t);
-    times_matrix::mult_cells(rows, inner, cols, a, &t, c);
+    turn(inner, cols, &*b, &mut t);
+    times_matrix::wide_cells(rows, inner, cols, &*a, &t, c);
 }

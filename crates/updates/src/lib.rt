@@ -14,8 +14,8 @@ pub fn innovate_cells(n: usize, m: usize, x: &[f32], h: &[f32], z: &[f32], y: &m
     requires { ⌜ (1 ≤ n) × (n ≤ length (now x)) × (m * n ≤ length (now h)) × (m ≤ length (now z)) × (m ≤ length (now y)) ⌝ }
     ensures { λ _. ⌜ now (y .exit) ≡ run 0 m (innovationOf binary32 n (cell n (now (h .entry))) (numbers (now (x .entry))) (numbers (now (z .entry)))) (now (y .entry)) ⌝ }
 {
-    times_vector::rowvector_cells(m, n, h, x, y);
-    sums::cores::sub_cells_b(m, z, y);
+    times_vector::rowvector_cells(m, n, &*h, &*x, y);
+    sums::cores::sub_cells_b(m, &*z, y);
 }
 
 // temp_HP = H·P, and S = temp_HP·Hᵀ + R decomposed: the index of the pivot that is refused comes
@@ -29,14 +29,14 @@ pub fn residual_cells(
     s: &mut [f32],
     temp_hp: &mut [f32],
 ) -> usize
-    requires { ⌜ (1 ≤ n) × (n * n ≤ length (now p)) × (m * n ≤ length (now h)) × (m * m ≤ length (now r)) × (m * m ≤ length (now s)) × (m * n ≤ length (now «temp_hp»)) ⌝ }
+    requires { ⌜ (1 ≤ n) × (n * n ≤ length (now p)) × (m * n ≤ length (now h)) × (m * m ≤ length (now r)) × (m * m ≤ length (now s)) × (m * n ≤ length (now «temp_hp»)) × (1 ≤ m) × (n ≤ 16) × (m ≤ 16) ⌝ }
     ensures index { λ i. ⌜ i ≡ pivotOf binary32 n m (cell n (now (h .entry))) (cell n (now (p .entry))) (cell m (now (r .entry))) ⌝ }
     ensures hp { λ _. ⌜ now («temp_hp» .exit) ≡ grid m n (HPOf binary32 n (cell n (now (h .entry))) (cell n (now (p .entry)))) (now («temp_hp» .entry)) ⌝ }
     ensures s { λ _. ⌜ now (s .exit) ≡ grid m m (factorOf binary32 n m (cell n (now (h .entry))) (cell n (now (p .entry))) (cell m (now (r .entry)))) (now (s .entry)) ⌝ }
 {
-    times_matrix::mult_cells(m, n, n, h, p, temp_hp);
-    times_transpose::transb_cells(m, n, m, temp_hp, h, s);
-    sums::cores::add_cells_a(m * m, s, r);
+    times_matrix::mult_cells(m, n, n, &*h, &*p, temp_hp);
+    times_transpose::transb_cells(m, n, m, temp_hp, &*h, s);
+    sums::cores::add_cells_a(m * m, s, &*r);
     cholesky::cores::decompose_cells(m, s)
 }
 
@@ -51,12 +51,12 @@ pub fn gain_cells(
     temp_s_inv: &mut [f32],
     temp_pht: &mut [f32],
 )
-    requires { ⌜ (1 ≤ n) × (n * n ≤ length (now p)) × (m * n ≤ length (now h)) × (m * m ≤ length (now s)) × (n * m ≤ length (now k)) × (m * m ≤ length (now «temp_s_inv»)) × (n * m ≤ length (now «temp_pht»)) ⌝ }
+    requires { ⌜ (1 ≤ n) × (n * n ≤ length (now p)) × (m * n ≤ length (now h)) × (m * m ≤ length (now s)) × (n * m ≤ length (now k)) × (m * m ≤ length (now «temp_s_inv»)) × (n * m ≤ length (now «temp_pht»)) × (1 ≤ m) × (n ≤ 16) × (m ≤ 16) ⌝ }
     ensures inverse { λ _. ⌜ now («temp_s_inv» .exit) ≡ grid m m (inverse binary32 m (cell m (now (s .entry))) (cell m (now («temp_s_inv» .entry)))) (now («temp_s_inv» .entry)) ⌝ }
     ensures pht { λ _. ⌜ now («temp_pht» .exit) ≡ grid n m (PHtOf binary32 n (cell n (now (h .entry))) (cell n (now (p .entry)))) (now («temp_pht» .entry)) ⌝ }
     ensures k { λ _. ⌜ now (k .exit) ≡ grid n m (times binary32 m (PHtOf binary32 n (cell n (now (h .entry))) (cell n (now (p .entry)))) (inverse binary32 m (cell m (now (s .entry))) (cell m (now («temp_s_inv» .entry))))) (now (k .entry)) ⌝ }
 {
-    inverse::cores::invert_cells(m, s, temp_s_inv);
-    times_transpose::transb_cells(n, n, m, p, h, temp_pht);
+    inverse::cores::invert_cells(m, &*s, temp_s_inv);
+    times_transpose::transb_cells(n, n, m, &*p, &*h, temp_pht);
     times_matrix::mult_cells(n, m, m, temp_pht, temp_s_inv, k);
 }

@@ -1,8 +1,7 @@
--- `correct` meets its contract: the gate's answer decides; past it y is the innovation, and the update reads it. Assumes nothing.
+-- `correct` meets its contract: the gate's answer decides; past it y is the innovation, and the update has read it. Assumes nothing.
 use mathlib.Core.Path.{_≡_, sym, _∙_}
 use mathlib.Core.Bool.{true}
 use mathlib.Core.List.{[]}
-use native.Mathlib.Omega.{arith}
 use denote.Ref.{now}
 use lib.Ieee.{binary32}
 use Rattle.answers.specs.Answers.{isDone}
@@ -21,11 +20,8 @@ start c = c .before .before .before .before .before .before .before .before .bef
 abbrev gate : tie.Then1 → tie.After-correction
 gate c = c .before .before
 
-abbrev then : tie.After-innovate-cells → tie.Then1
-then c = c .before .before .before
-
-abbrev innovated : tie.After-update-cells → tie.After-innovate-cells
-innovated c = c .before .before .before .before .before .before .before .before .before .before .before .before
+abbrev then : tie.After-correct-cells → tie.Then1
+then c = c .before .before .before .before .before .before .before .before .before .before
 
 -- the buffers as lent
 abbrev lent : tie.Start → Buffers
@@ -48,26 +44,20 @@ correction-requires c κs = tt
 is-done-requires : tie.Need-is-done-requires
 is-done-requires c κs = tt
 
-innovate-cells-requires : tie.Need-innovate-cells-requires
-innovate-cells-requires c κs =
-    let t = c .before .before in
+correct-cells-requires : tie.Need-correct-cells-requires
+correct-cells-requires c κs =
+    let t = c .before .before .before .before .before .before .before .before .before in
     let h = correct-fits _ _ (lent (start (gate t))) (done t) in
-    (h .0 .states, h .0 .x-holds, h .0 .H-holds, h .1, h .0 .y-holds)
-
-update-cells-requires : tie.Need-update-cells-requires
-update-cells-requires c κs =
-    let t = then (c .before .before .before .before .before .before .before .before .before .before .before) in
-    let h = correct-fits _ _ (lent (start (gate t))) (done t) .0 in
-    held-with _ _ (lent (start (gate t))) _ [] h (omega (arith, h .y-holds))
+    (held-with _ _ (lent (start (gate t))) _ [] (h .0) (h .0 .y-holds), h .1)
 
 same-length : tie.Need-same-length
-same-length c = c .before .before .before .before .before .before .before .before .before .before .before .before .before .before .before .x .given
+same-length c = c .before .before .before .before .before .before .before .before .before .before .before .before .before .before .before .before .before .x .given
 
 same-length-2 : tie.Need-same-length-2
-same-length-2 c = c .before .before .before .before .before .before .before .before .before .before .before .before .before .p .given
+same-length-2 c = c .before .before .before .before .before .before .before .before .before .before .before .before .before .before .before .p .given
 
 same-length-3 : tie.Need-same-length-3
-same-length-3 c = c .before .before .before .before .before .before .before .before .before .before .before .before .before .before .before .before .before .before .before .before .before .before .before .before .before .before .before .y .given
+same-length-3 c = c .before .before .before .before .before .before .before .before .before .before .before .before .before .y .given
 
 same-length-4 : tie.Need-same-length-4
 same-length-4 c = c .before .before .before .before .before .before .before .before .before .before .before .s .given
@@ -89,11 +79,10 @@ same-length-9 c = c .before .temp-khp .given
 
 returns : tie.Need-returns
 returns c =
-    let u = c .before .before .before .before .before .before .before .before .before .before .before .before .before .before .before .before in
-    let i = innovated u in
-    let t = then i in
+    let u = c .before .before .before .before .before .before .before .before .before .before .before .before .before .before .before .before .before .before in
+    let t = then u in
     let s = start (gate t) in
-    correct-past binary32 (s .args .n) (s .args .m) (lent s) _ _ [] (done t) (i .innovate-cells .ensures) (u .update-cells .ensures)
+    correct-past binary32 (s .args .n) (s .args .m) (lent s) _ _ [] (done t) (u .correct-cells .ensures .0) (u .correct-cells .ensures .1)
 
 returns-2 : tie.Need-returns-2
 returns-2 c =
@@ -107,8 +96,7 @@ correct-spec =
     (tie.spec
     correction-requires
     is-done-requires
-    innovate-cells-requires
-    update-cells-requires
+    correct-cells-requires
     same-length
     same-length-2
     same-length-3

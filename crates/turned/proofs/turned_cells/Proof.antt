@@ -10,7 +10,7 @@ returns : tie.Need-returns
 returns c =
     let m = c .before .before .before .before .before .before .before .before .before .before .before .args in
     by-transpose binary32 (m .rows) (m .inner) (m .cols) (now (m .a)) (now (m .b)) (now (m .c)) _ _ _
-    (c .before .before .before .before .before .before .turn .ensures) (c .before .before .mult-cells .ensures) (search needs)
+    (c .before .before .before .before .before .before .turn .ensures) (c .before .before .wide-cells .ensures) (search needs)
 
 pub turned-cells-spec : {M : Type 1} → statement M
 turned-cells-spec =

@@ -1,4 +1,4 @@
--- `regular::predict` meets its contract: the gate's answer decides, and the two cores write nothing in common. Assumes nothing.
+-- `regular::predict` meets its contract: the gate's answer decides, and the core leaves what the promise says. Assumes nothing.
 use denote.Ref.{now}
 use lib.ListN.{length}
 use Rattle.answers.proofs.Kept.{accepted}
@@ -19,32 +19,30 @@ of-both-requires c κs = tt
 is-done-requires : tie.Need-is-done-requires
 is-done-requires c κs = tt
 
-predict-x-cells-requires : tie.Need-predict-x-cells-requires
-predict-x-cells-requires c κs = let s = shape (c .before .before) .0 in (s .least, s .holds-x, s .holds-a, s .holds-px)
-
-predict-p-cells-requires : tie.Need-predict-p-cells-requires
-predict-p-cells-requires c κs = let s = shape (c .before .before .before .before .before .before .before .before .before) .1 in (s .least, s .holds-a, s .holds-p, s .holds-q, s .holds-temp)
+predict-cells-requires : tie.Need-predict-cells-requires
+predict-cells-requires c κs =
+    let s = shape (c .before .before .before .before) in let x = s .0 in let P = s .1 in
+    (x .least, x .holds-x, x .holds-a, P .holds-p, P .holds-q, x .holds-px, P .holds-temp, P .most)
 
 same-length : tie.Need-same-length
-same-length c = c .before .before .before .before .before .before .before .before .before .before .x .given
+same-length c = c .before .before .before .before .before .before .before .x .given
 
 same-length-2 : tie.Need-same-length-2
-same-length-2 c = c .before .before .before .p .given
+same-length-2 c = c .before .before .before .before .before .p .given
 
 same-length-3 : tie.Need-same-length-3
-same-length-3 c = c .before .before .before .before .before .before .before .before .predicted .given
+same-length-3 c = c .before .before .before .predicted .given
 
 same-length-4 : tie.Need-same-length-4
 same-length-4 c = c .before .temp .given
 
 returns : tie.Need-returns
 returns c =
-    let t = c .before .before .before .before .before .before .before .before .before .before .before .before .before .before in
+    let t = c .before .before .before .before .before .before .before .before .before .before .before .before .before in
     let e = t .before .before .of-both .ensures in
     let d = t .before .is-done .ensures in
-    let x = c .before .before .before .before .before .before .before .before .before .before .before .predict-x-cells .ensures in
-    let P = c .before .before .before .before .predict-p-cells .ensures in
-    record { answer = e; x-after = written-by _ e d (t .if1 .taken) (x .0); P-after = written-by _ e d (t .if1 .taken) (P .0); predicted-x-after = written-by _ e d (t .if1 .taken) (x .1); temp-P-after = written-by _ e d (t .if1 .taken) (P .1) }
+    let w = c .before .before .before .before .before .before .before .before .predict-cells .ensures in
+    record { answer = e; x-after = written-by _ e d (t .if1 .taken) (w .0); P-after = written-by _ e d (t .if1 .taken) (w .1 .1 .0); predicted-x-after = written-by _ e d (t .if1 .taken) (w .1 .0); temp-P-after = written-by _ e d (t .if1 .taken) (w .1 .1 .1) }
 
 returns-2 : tie.Need-returns-2
 returns-2 c =
@@ -58,8 +56,7 @@ predict-spec =
     (tie.spec
     of-both-requires
     is-done-requires
-    predict-x-cells-requires
-    predict-p-cells-requires
+    predict-cells-requires
     same-length
     same-length-2
     same-length-3

@@ -19,7 +19,7 @@ is-done-requires : tie.Need-is-done-requires
 is-done-requires c κs = search needs
 
 predict-p-cells-requires : tie.Need-predict-p-cells-requires
-predict-p-cells-requires c κs = let s = shape (c .before .before) in (s .least, s .holds-a, s .holds-p, s .holds-q, s .holds-temp)
+predict-p-cells-requires c κs = let s = shape (c .before .before) in (s .least, s .holds-a, s .holds-p, s .holds-q, s .holds-temp, s .most)
 
 same-length : tie.Need-same-length
 same-length c = c .before .before .before .p .given

@@ -21,7 +21,7 @@ multscale-transb-spec =
     (tie.spec
     (λ c κs. search needs)
     (λ c κs. search needs)
-    (λ c κs. transposed-fits _ _ _ _ _ _ (c .before .before .before .product .ensures ∙ transposed-asked _ _ _ _ _ _) (c .before .before .is-done .ensures) (c .before .if1 .taken))
+    (λ c κs. let h = transposed-fits _ _ _ _ _ _ (c .before .before .before .product .ensures ∙ transposed-asked _ _ _ _ _ _) (c .before .before .is-done .ensures) (c .before .if1 .taken) in (h .0, h .1, h .2))
     (λ c. search needs)
     returns
     returns-2)

@@ -1,0 +1,2 @@
+-- The law of what is left past the pivots.
+pub mod Finished

@@ -1,0 +1,2 @@
+-- Laws of values: from their parts, and in buffers.
+pub mod Values

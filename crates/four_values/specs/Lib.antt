@@ -1,0 +1,3 @@
+-- The definitions that the contracts cite: matrices of these sizes by value, and their products.
+pub mod Values
+pub mod Products

@@ -1,0 +1,2 @@
+-- The definition that contracts above cite: what four totals are of a row.
+pub mod Chunks

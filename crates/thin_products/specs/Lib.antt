@@ -1,0 +1,2 @@
+-- The definitions that the contracts of thin products cite.
+pub mod Thin
