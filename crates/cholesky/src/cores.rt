@@ -14,6 +14,9 @@ pub fn decompose_cells(n: usize, t: &mut [f32]) -> usize
     ensures index { λ r. ⌜ r ≡ reached binary32 n (cell n (now (t .entry))) ⌝ }
     ensures after { λ _. ⌜ now (t .exit) ≡ grid n n (decomposed binary32 n (cell n (now (t .entry)))) (now (t .entry)) ⌝ }
 {
+    if n == 3 {
+        return three_pivots::decompose_three(t);
+    }
     let i = columns::fill_columns(n, t);
     if i < n {
         return i;

@@ -1,6 +1,6 @@
 -- Column after column, until a pivot is refused: each step is the definition's, since the buffer holds the entries of the columns done. Assumes nothing.
-use mathlib.Core.Path.{_≡_, refl, sym, ap, _∙_}
-use mathlib.Core.Bool.{Bool, true, false, cond}
+use mathlib.Core.Path.{_≡_, sym, ap, _∙_}
+use mathlib.Core.Bool.{true, false}
 use mathlib.Core.List.{List}
 use Prim.Native.Nat.{ℕ, suc, _*_, _<_, _≤_}
 use native.Mathlib.Omega.{arith}
@@ -17,19 +17,10 @@ use Rattle.factors.proofs.Below.{remains-local, below-local}
 use Rattle.pivots.specs.declared.Pivot.{Pivot}
 use Rattle.pivots.specs.declared.Pivot.the-variants.{Accepted, Refused}
 use Rattle.pivots.specs.Pivots.{pivotOf}
+use Rattle.pivots.proofs.Cases.{accepted-is, refused-is}
 use Rattle.columns.specs.Steps.{stored}
 
--- ---- the cases of a pivot
-
--- a pivot step that accepts took the pivot, and carries the root and its reciprocal
-accepted-is : (b : Bool) (r q s x y : Float) → cond b (Accepted r q) (Refused s) ≡ Accepted x y → (b ≡ true) × (x ≡ r) × (y ≡ q)
-accepted-is true r q s x y e = (refl, cc, cc)
-accepted-is false r q s x y e = let z : _≡_ {A = ℕ} 0 1 = cc in absurd (omega arith)
-
--- one that refuses did not, and carries the pivot
-refused-is : (b : Bool) (r q s x : Float) → cond b (Accepted r q) (Refused s) ≡ Refused x → (b ≡ false) × (x ≡ s)
-refused-is true r q s x e = let z : _≡_ {A = ℕ} 0 1 = cc in absurd (omega arith)
-refused-is false r q s x e = (refl, cc)
+-- ---- the case of a pivot
 
 -- the step on the computed sum s, its case taken apart by a match, is the step on the definition's sum
 pub told : (f : Format) (s x : Float) (v w : Pivot) → w ≡ v → w ≡ pivotOf f s → s ≡ x → v ≡ pivotOf f x

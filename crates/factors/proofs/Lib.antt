@@ -11,7 +11,11 @@ pub mod Local
 pub mod Named
 pub mod Theorems
 pub mod Upward
+pub mod Sideways
+pub mod Crosses
 pub mod Downward
+pub mod BackRows
 pub mod InverseCalls
 pub mod OnlyLower
+pub mod Mirrored
 pub mod InverseTheorems

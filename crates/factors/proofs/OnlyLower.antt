@@ -8,7 +8,7 @@ use native.Mathlib.Omega.{arith}
 use lib.Ieee.{Float, Format, mul, neg}
 use Rattle.factors.specs.Inverse.{SameLower, unitAt, solveColumn, solved, backAt, cross, back, inverse}
 use Rattle.factors.proofs.Upward.{plus-ext, solve-off, solve-at}
-use Rattle.factors.proofs.Downward.{cross-up, cross-left, cross-off, cross-low, cross-right}
+use Rattle.factors.proofs.Crosses.{cross-up, cross-left, cross-off, cross-low, cross-right}
 
 -- ---- the result equals its transpose
 
@@ -108,14 +108,19 @@ module _ (f : Format) (n : ℕ) (L M : ℕ → ℕ → Float) (same : SameLower 
         ]
       ]
 
-  -- both, on and above the diagonal
-  inverse-up : (e g : ℕ → ℕ → Float) (r c : ℕ) → r ≤ c → c < n → inverse f n L e r c ≡ inverse f n M g r c
-  inverse-up e g r c h k = back-upper _ _ (λ x y a b. solved-upper e g n (omega arith) x y a b) n (omega arith) r c h k
-
-  -- both, everywhere: below the diagonal by the transpose
-  pub inverse-lower : (e g : ℕ → ℕ → Float) (r c : ℕ) → r < n → c < n → inverse f n L e r c ≡ inverse f n M g r c
-  inverse-lower e g r c hr hc =
+  -- the second pass, everywhere: below the diagonal by the transpose
+  pub back-lower :
+      (e g : ℕ → ℕ → Float) → ((r c : ℕ) → r ≤ c → c < n → e r c ≡ g r c) → (r c : ℕ) → r < n → c < n
+      → back f n L e n r c ≡ back f n M g n r c
+  back-lower e g start r c hr hc =
       elim (decLe r c) [
-        | yes h ↦ inverse-up e g r c h hc
-        | no h ↦ inverse-sym f n L e r c hr hc ∙ inverse-up e g c r (omega arith) hr ∙ sym (inverse-sym f n M g r c hr hc)
+        | yes h ↦ back-upper e g start n (omega arith) r c h hc
+        | no h ↦
+            back-sym f n L e n (omega arith) r c hr hc (inl (omega arith))
+            ∙ back-upper e g start n (omega arith) c r (omega arith) hr
+            ∙ sym (back-sym f n M g n (omega arith) r c hr hc (inl (omega arith)))
       ]
+
+  -- both passes
+  pub inverse-lower : (e g : ℕ → ℕ → Float) (r c : ℕ) → r < n → c < n → inverse f n L e r c ≡ inverse f n M g r c
+  inverse-lower e g r c hr hc = back-lower _ _ (λ x y a b. solved-upper e g n (omega arith) x y a b) r c hr hc

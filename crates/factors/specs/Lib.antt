@@ -4,4 +4,5 @@ pub mod Decomposition
 pub mod Steps
 pub mod Decomposed
 pub mod Inverse
+pub mod Rows
 pub mod Inverted

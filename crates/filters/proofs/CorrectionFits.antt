@@ -2,53 +2,28 @@
 use mathlib.Core.Path.{_≡_, ap, _∙_}
 use mathlib.Core.Bool.{true}
 use mathlib.Core.List.{List, [], _∷_, _++_}
-use Prim.Native.Nat.{ℕ, suc, _+_, _*_, _≤_}
-use native.Mathlib.Omega.{arith}
+use Prim.Native.Nat.{ℕ, _*_, _≤_}
 use lib.ListN.{length}
 use lib.Ieee.{Float}
 use Rattle.answers.specs.declared.Answer.{Answer}
 use Rattle.answers.specs.Answers.{numberOf, isDone, firstOf}
-use Rattle.answers.specs.Tests.{bufferTest, bufferTests, afterTests, lent}
+use Rattle.answers.specs.Tests.{lent}
 use Rattle.answers.proofs.Fit as fits
 use Rattle.answers.proofs.Fit.{fit}
 use Rattle.answers.proofs.Table.{at-most-3}
-use Rattle.filters.specs.Lent.{Buffers, buffers, fromR, frontOf, fromROf, correctAnswer, updateAnswer, innovationAnswer, Held}
+use Rattle.filters.specs.Lent.{Buffers, buffers, frontOf, fromROf, correctAnswer, updateAnswer, innovationAnswer, Held}
 
 -- A test after others: the first refusal of them all stays.
 pub after : (v u w : Answer) {v' : Answer} → v' ≡ firstOf v w → v ≡ u → v' ≡ firstOf u w
 after v u w e q = e ∙ ap (λ (x : Answer). firstOf x w) q
 
--- So for the test of a buffer whose index is said in another way.
-then-asked : (v u : Answer) (i j cells len : ℕ) {v' : Answer} → v' ≡ firstOf v (bufferTest i cells len) → i ≡ j → v ≡ u → v' ≡ firstOf u (bufferTest j cells len)
-then-asked v u i j cells len e q p = e ∙ rw (q, p)
+-- So for two ..
+pub after-two : (v u w₁ w₂ : Answer) {v' : Answer} → v' ≡ firstOf (firstOf v w₁) w₂ → v ≡ u → v' ≡ firstOf (firstOf u w₁) w₂
+after-two v u w₁ w₂ e q = e ∙ ap (λ (x : Answer). firstOf (firstOf x w₁) w₂) q
 
--- The tests of the buffers from R on, which has the index i, one after the other.
-pub from-r-asked : (n m R y S K S-inv HP PHt KHP i : ℕ) (v : Answer) {v₁ v₂ v₃ v₄ v₅ v₆ v₇ v₈ : Answer}
-    → v₁ ≡ firstOf v (bufferTest i (m * m) R)
-    → v₂ ≡ firstOf v₁ (bufferTest (i + 1) m y)
-    → v₃ ≡ firstOf v₂ (bufferTest (i + 2) (m * m) S)
-    → v₄ ≡ firstOf v₃ (bufferTest (i + 3) (n * m) K)
-    → v₅ ≡ firstOf v₄ (bufferTest (i + 4) (m * m) S-inv)
-    → v₆ ≡ firstOf v₅ (bufferTest (i + 5) (m * n) HP)
-    → v₇ ≡ firstOf v₆ (bufferTest (i + 6) (n * m) PHt)
-    → v₈ ≡ firstOf v₇ (bufferTest (i + 7) (n * n) KHP)
-    → v₈ ≡ afterTests v (bufferTests i (fromR n m R y S K S-inv HP PHt KHP))
-from-r-asked n m R y S K S-inv HP PHt KHP i v e₁ e₂ e₃ e₄ e₅ e₆ e₇ e₈ =
-    let i₁ = suc i in
-    let i₂ = suc i₁ in
-    let i₃ = suc i₂ in
-    let i₄ = suc i₃ in
-    let i₅ = suc i₄ in
-    let i₆ = suc i₅ in
-    let i₇ = suc i₆ in
-    then-asked _ _ (i + 7) i₇ (n * n) KHP e₈ (omega arith)
-    (then-asked _ _ (i + 6) i₆ (n * m) PHt e₇ (omega arith)
-    (then-asked _ _ (i + 5) i₅ (m * n) HP e₆ (omega arith)
-    (then-asked _ _ (i + 4) i₄ (m * m) S-inv e₅ (omega arith)
-    (then-asked _ _ (i + 3) i₃ (n * m) K e₄ (omega arith)
-    (then-asked _ _ (i + 2) i₂ (m * m) S e₃ (omega arith)
-    (then-asked _ _ (i + 1) i₁ m y e₂ (omega arith)
-    e₁))))))
+-- .. and for three.
+pub after-three : (v u w₁ w₂ w₃ : Answer) {v' : Answer} → v' ≡ firstOf (firstOf (firstOf v w₁) w₂) w₃ → v ≡ u → v' ≡ firstOf (firstOf (firstOf u w₁) w₂) w₃
+after-three v u w₁ w₂ w₃ e q = e ∙ ap (λ (x : Answer). firstOf (firstOf (firstOf x w₁) w₂) w₃) q
 
 -- n states and m observations; x, H, z and y of so many numbers
 pub record Observed (n m lx lh lz ly : ℕ) : Type 0 where

@@ -30,21 +30,29 @@ innovated f n m x H z y y₁ y₂ fits e₁ e₂ =
     e₂ ∙ run-over 0 m (λ i. sub f (getD z i nan) (getD y₁ i nan)) (rowProduct f n H x) y₁ y e₁
     ∙ run-ext 0 m _ _ y (λ i h. ap (sub f (getD z i nan)) (front-cell m (rowProduct f n H x) y y₁ i h fits e₁))
 
--- temp_HP = H·P, S = temp_HP·Hᵀ, S = S + R, S decomposed: the index, and the factor.
+-- S = temp_HP·Hᵀ, S = S + R.
+pub summed :
+    (f : Format) (n m : ℕ) (HP H R S S₁ : List Float) {S₂ : List Float} → m * m ≤ length S → S₁ ≡ grid m m (productT f n HP H) S
+    → S₂ ≡ run 0 (m * m) (λ j. add f (getD S₁ j nan) (getD R j nan)) S₁
+    → S₂ ≡ grid m m (λ r c. add f (productT f n HP H r c) (cell m R r c)) S
+summed f n m HP H R S S₁ S-fits e₁ e₂ =
+    e₂ ∙ entrywise m (add f) S₁ R S₁
+    ∙ regrid m (λ e r c. add f (e r c) (cell m R r c)) (productT f n HP H) S S₁ S-fits (λ e g s r c hr hc. ap (λ (x : Float). add f x (cell m R r c)) (s r c hr hc)) e₁
+
+-- temp_HP = H·P, S = temp_HP·Hᵀ + R, S decomposed: the index, and the factor.
 pub residual :
-    (f : Format) (n m : ℕ) (P H R HP S HP' S₁ S₂ : List Float) {S₃ : List Float} {i : ℕ} → m * n ≤ length HP → m * m ≤ length S
-    → HP' ≡ grid m n (product f n n H P) HP → S₁ ≡ grid m m (productT f n HP' H) S → S₂ ≡ run 0 (m * m) (λ j. add f (getD S₁ j nan) (getD R j nan)) S₁
-    → i ≡ reached f m (cell m S₂) → S₃ ≡ grid m m (decomposed f m (cell m S₂)) S₂
-    → (i ≡ pivotOf f n m (cell n H) (cell n P) (cell m R)) × (S₃ ≡ grid m m (factorOf f n m (cell n H) (cell n P) (cell m R)) S)
-residual f n m P H R HP S HP' S₁ S₂ HP-fits S-fits e₁ e₂ e₃ e₄ e₅ =
-    let T = timesT f n (HPOf f n (cell n H) (cell n P)) (cell n H) in
-    let product-of : S₁ ≡ grid m m T S =
-    e₂ ∙ grid-ext m m _ _ S (timesT-alike f m n m (cell n HP') (HPOf f n (cell n H) (cell n P)) (cell n H) (cell n H) (written m n _ HP HP' HP-fits e₁) (λ r c hr hc. refl)) in
-    let sum-of : S₂ ≡ grid m m (residualOf f n (cell n H) (cell n P) (cell m R)) S =
-    e₃ ∙ entrywise m (add f) S₁ R S₁
-    ∙ regrid m (λ e r c. add f (e r c) (cell m R r c)) T S S₁ S-fits (λ e g s r c hr hc. ap (λ (x : Float). add f x (cell m R r c)) (s r c hr hc)) product-of in (
-      e₄ ∙ reached-local f m (cell m S₂) _ (written m m _ S S₂ S-fits sum-of),
-      e₅ ∙ regrid m (decomposed f m) _ S S₂ S-fits (λ e g s. decomposed-local f m e g s) sum-of,
+    (f : Format) (n m : ℕ) (P H R HP S HP' S₁ : List Float) {S₂ : List Float} {i : ℕ} → m * n ≤ length HP → m * m ≤ length S
+    → HP' ≡ grid m n (product f n n H P) HP → S₁ ≡ grid m m (λ r c. add f (productT f n HP' H r c) (cell m R r c)) S
+    → i ≡ reached f m (cell m S₁) → S₂ ≡ grid m m (decomposed f m (cell m S₁)) S₁
+    → (i ≡ pivotOf f n m (cell n H) (cell n P) (cell m R)) × (S₂ ≡ grid m m (factorOf f n m (cell n H) (cell n P) (cell m R)) S)
+residual f n m P H R HP S HP' S₁ HP-fits S-fits e₁ e₂ e₃ e₄ =
+    let sum-of : S₁ ≡ grid m m (residualOf f n (cell n H) (cell n P) (cell m R)) S =
+    e₂
+    ∙ grid-ext m m _ _ S
+    (λ r c hr hc. ap (λ (x : Float). add f x (cell m R r c))
+    (timesT-alike f m n m (cell n HP') (HPOf f n (cell n H) (cell n P)) (cell n H) (cell n H) (written m n _ HP HP' HP-fits e₁) (λ r c hr hc. refl) r c hr hc)) in (
+      e₃ ∙ reached-local f m (cell m S₁) _ (written m m _ S S₁ S-fits sum-of),
+      e₄ ∙ regrid m (decomposed f m) _ S S₁ S-fits (λ e g s. decomposed-local f m e g s) sum-of,
     )
 
 -- K = temp_PHt·temp_S_inv.

@@ -1,6 +1,6 @@
 -- From the numbers that a correction in straight lines stores to what it promises, over plain lists. For n states and m observations the inverse of S is known by its entries, as J, and the innovation by its numbers, as Y.
 -- With one observation S is one number, and which way it goes is its pivot's test. Assumes nothing.
-use mathlib.Core.Path.{_≡_, refl, sym, ap, ap₂, _∙_}
+use mathlib.Core.Path.{_≡_, refl, sym, ap, _∙_}
 use mathlib.Core.Bool.{Bool, true, false, cond, _&&_}
 use mathlib.Core.List.{List}
 use Prim.Native.Nat.{ℕ, zero, suc, _≤_, _<_}
@@ -14,7 +14,7 @@ use Rattle.answers.specs.Answers.{settled}
 use Rattle.numbers.specs.Reciprocal.{one, recipOf}
 use Rattle.numbers.specs.Root.{sqrtOf}
 use Rattle.numbers.specs.Sums.{plus0}
-use Rattle.numbers.specs.Finite.{every, entriesFinite}
+use Rattle.numbers.specs.Finite.{every}
 use Rattle.grids.specs.Grid.{cell, run, grid, SameEntries}
 use Rattle.grids.proofs.Grids.{run-ext, grid-ext}
 use Rattle.entries.specs.Entries.{times, numbers}
@@ -187,21 +187,16 @@ module _ (x : ℕ → Float) (P' : ℕ → ℕ → Float) where
     unfolding every
     one-failed u = record { told = ap (λ (t : Bool). cond t Done NotFinite) (sym u ∙ says) }
 
-  -- two states: r says it of x, and s, which is asked where r is true, of P
-  module _ (r : Bool) (says : r ≡ finite (x 0) && finite (x 1)) where
-    pub first-failed : r ≡ false → Verdict 2 x P' NotFinite
+  -- two states: r says it of all six
+  module _ (r : Bool) (says : r ≡ (finite (x 0) && finite (x 1)) && (((finite (P' 0 0) && finite (P' 0 1)) && finite (P' 1 0)) && finite (P' 1 1))) where
+    all-six : (t : Bool) → r ≡ t → cond t Done NotFinite ≡ finiteAnswer 2 x P'
     unfolding every
-    first-failed u = record { told = ap (λ (t : Bool). cond (t && entriesFinite 2 P') Done NotFinite) (sym u ∙ says) }
+    all-six t u =
+        ap (λ (q : Bool). cond q Done NotFinite) (sym u ∙ says)
+        ∙ ap (λ (q : Bool). cond ((finite (x 0) && finite (x 1)) && q) Done NotFinite) (and-and (finite (P' 0 0) && finite (P' 0 1)) (finite (P' 1 0)) (finite (P' 1 1)))
 
-    module _ (first : r ≡ true) (s : Bool) (says-too : s ≡ ((finite (P' 0 0) && finite (P' 0 1)) && finite (P' 1 0)) && finite (P' 1 1)) where
-      both : (t : Bool) → s ≡ t → cond t Done NotFinite ≡ finiteAnswer 2 x P'
-      unfolding every
-      both t u =
-          ap₂ (λ (p q : Bool). cond (p && q) Done NotFinite) (sym first ∙ says)
-          (sym u ∙ says-too ∙ and-and (finite (P' 0 0) && finite (P' 0 1)) (finite (P' 1 0)) (finite (P' 1 1)))
+    pub two-passed : r ≡ true → Verdict 2 x P' Done
+    two-passed u = record { told = all-six true u }
 
-      pub both-passed : s ≡ true → Verdict 2 x P' Done
-      both-passed u = record { told = both true u }
-
-      pub second-failed : s ≡ false → Verdict 2 x P' NotFinite
-      second-failed u = record { told = both false u }
+    pub two-failed : r ≡ false → Verdict 2 x P' NotFinite
+    two-failed u = record { told = all-six false u }

@@ -8,11 +8,11 @@ ghost use lib.Ieee.{binary32, nan, add, sub};
 ghost use lib.Ieee.Scale.{finite};
 ghost use Rattle.numbers.specs.Finite.{allFinite};
 
-// Whether v is. Only a finite number has the difference 0 from itself: an infinity's is a NaN.
+// Whether v is. A finite number has the difference 0 from itself, and an infinity or a NaN has a NaN.
 pub fn is_finite(v: f32) -> bool
     ensures { λ r. ⌜ r ≡ finite v ⌝ }
 {
-    v - v == 0.0
+    0.0 <= v - v
 }
 
 // Whether it was so far and v is too.

@@ -1,2 +1,3 @@
--- Laws of the steps: on values made of entries each is the general definition at four states, and so what is stored.
+-- Laws of the steps: a row in two halves, and that on values made of entries each step is the general definition at four states, and so what is stored.
+pub mod Rows
 pub mod Whole

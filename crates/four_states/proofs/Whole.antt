@@ -47,11 +47,11 @@ module _ (A : ℕ → ℕ → Float) {a : Sixteen} (a-is : a ≡ large A) where
     pub temp-left : (l : List Float) {e : List Float} → e ≡ grid 4 4 (inLarge t) l → e ≡ grid 4 4 (times binary32 4 A P) l
     temp-left l e-is = e-is ∙ ap (λ (w : Sixteen). grid 4 4 (inLarge w) l) made ∙ large-put _ l
 
-    -- P, from the turned A in b, the product with it in s, and Q in q
+    -- P, from the turned A in b and Q in q
     pub P-left :
-        (Q : ℕ → ℕ → Float) {b s q n : Sixteen} → b ≡ transposed a → s ≡ allTimes t b → q ≡ large Q → n ≡ allPlus s q
+        (Q : ℕ → ℕ → Float) {b q n : Sixteen} → b ≡ transposed a → q ≡ large Q → n ≡ allPlus (allTimes t b) q
         → (l : List Float) {e : List Float} → e ≡ grid 4 4 (inLarge n) l
         → e ≡ grid 4 4 (λ r c. add binary32 (timesT binary32 4 (times binary32 4 A P) A r c) (Q r c)) l
-    P-left Q b-is s-is q-is n-is l e-is =
-        let across = s-is ∙ ap₂ allTimes made (b-is ∙ ap transposed a-is) ∙ across-of (times binary32 4 A P) A in
+    P-left Q b-is q-is n-is l e-is =
+        let across = ap₂ allTimes made (b-is ∙ ap transposed a-is) ∙ across-of (times binary32 4 A P) A in
         e-is ∙ ap (λ (w : Sixteen). grid 4 4 (inLarge w) l) (n-is ∙ ap₂ allPlus across q-is ∙ plus-of (timesT binary32 4 (times binary32 4 A P) A) Q) ∙ large-put _ l

@@ -1,6 +1,7 @@
 // The prediction of four states, row by row on values, for the crate above, which has tested sizes and
 // buffers; not for users. Every operand is read first and every result stored last; each sum has the
-// start and the order of its definition.
+// start and the order of its definition. A function that is called once, however large, is compiled into
+// its caller, and so is a small one: each product has a function of its own, in halves of rows.
 ghost use mathlib.Core.Path.{_≡_};
 ghost use Prim.Native.Nat.{_≤_};
 ghost use lib.ListN.{length};
@@ -27,23 +28,51 @@ fn all_on(a: Sixteen, x: Four) -> Four
 fn all_times(a: Sixteen, p: Sixteen) -> Sixteen
     ensures { λ v. ⌜ v ≡ allTimes a p ⌝ }
 {
+    let none = Four {
+        t0: 0.0,
+        t1: 0.0,
+        t2: 0.0,
+        t3: 0.0,
+    };
+    let h0 = four_values::with_two(none, a.f0.t0, p.f0, a.f0.t1, p.f1);
+    let r0 = four_values::with_two(h0, a.f0.t2, p.f2, a.f0.t3, p.f3);
+    let h1 = four_values::with_two(none, a.f1.t0, p.f0, a.f1.t1, p.f1);
+    let r1 = four_values::with_two(h1, a.f1.t2, p.f2, a.f1.t3, p.f3);
+    let h2 = four_values::with_two(none, a.f2.t0, p.f0, a.f2.t1, p.f1);
+    let r2 = four_values::with_two(h2, a.f2.t2, p.f2, a.f2.t3, p.f3);
+    let h3 = four_values::with_two(none, a.f3.t0, p.f0, a.f3.t1, p.f1);
+    let r3 = four_values::with_two(h3, a.f3.t2, p.f2, a.f3.t3, p.f3);
     Sixteen {
-        f0: four_values::row_times(a.f0, p),
-        f1: four_values::row_times(a.f1, p),
-        f2: four_values::row_times(a.f2, p),
-        f3: four_values::row_times(a.f3, p),
+        f0: r0,
+        f1: r1,
+        f2: r2,
+        f3: r3,
     }
 }
 
-// t, and q on top.
-fn all_plus(t: Sixteen, q: Sixteen) -> Sixteen
-    ensures { λ v. ⌜ v ≡ allPlus t q ⌝ }
+// a·p, and q on top.
+fn times_plus(a: Sixteen, p: Sixteen, q: Sixteen) -> Sixteen
+    ensures { λ v. ⌜ v ≡ allPlus (allTimes a p) q ⌝ }
 {
+    let none = Four {
+        t0: 0.0,
+        t1: 0.0,
+        t2: 0.0,
+        t3: 0.0,
+    };
+    let h0 = four_values::with_two(none, a.f0.t0, p.f0, a.f0.t1, p.f1);
+    let r0 = four_values::with_two(h0, a.f0.t2, p.f2, a.f0.t3, p.f3);
+    let h1 = four_values::with_two(none, a.f1.t0, p.f0, a.f1.t1, p.f1);
+    let r1 = four_values::with_two(h1, a.f1.t2, p.f2, a.f1.t3, p.f3);
+    let h2 = four_values::with_two(none, a.f2.t0, p.f0, a.f2.t1, p.f1);
+    let r2 = four_values::with_two(h2, a.f2.t2, p.f2, a.f2.t3, p.f3);
+    let h3 = four_values::with_two(none, a.f3.t0, p.f0, a.f3.t1, p.f1);
+    let r3 = four_values::with_two(h3, a.f3.t2, p.f2, a.f3.t3, p.f3);
     Sixteen {
-        f0: side_by_side::plus(t.f0, q.f0),
-        f1: side_by_side::plus(t.f1, q.f1),
-        f2: side_by_side::plus(t.f2, q.f2),
-        f3: side_by_side::plus(t.f3, q.f3),
+        f0: side_by_side::plus(r0, q.f0),
+        f1: side_by_side::plus(r1, q.f1),
+        f2: side_by_side::plus(r2, q.f2),
+        f3: side_by_side::plus(r3, q.f3),
     }
 }
 
@@ -65,8 +94,7 @@ pub fn predict_four(
     let m = four_values::read_sixteen(a);
     let next = all_on(m, side_by_side::read(&*x, 0));
     let t = all_times(m, four_values::read_sixteen(&*p));
-    let across = all_times(t, four_values::turned(m));
-    let n = all_plus(across, four_values::read_sixteen(q));
+    let n = times_plus(t, four_values::turned(m), four_values::read_sixteen(q));
     side_by_side::put(x, 0, next);
     side_by_side::put(predicted, 0, next);
     four_values::put_sixteen(temp, t);

@@ -1,5 +1,5 @@
 -- Products of matrices by value, each by the general definition. Definitions only.
-use lib.Ieee.{Float, binary32, sub}
+use lib.Ieee.{Float, binary32, add, sub, mul}
 use Rattle.side_by_side.specs.declared.Four.{Four}
 use Rattle.side_by_side.specs.declared.Eight.{Eight}
 use Rattle.side_by_side.specs.declared.Sixteen.{Sixteen}
@@ -9,6 +9,10 @@ use Rattle.four_values.specs.Values.{ofTwo, four, square, large, inFour,
 -- a row times P
 unfoldable pub rowTimes : Four → Sixteen → Four
 rowTimes h p = four (times binary32 4 (λ r. inFour h) (inLarge p) 0)
+
+-- t, and x times the row a and y times the row b on top
+unfoldable pub withTwo : Four → Float → Four → Float → Four → Four
+withTwo t x a y b = four (λ k. add binary32 (add binary32 (inFour t k) (mul binary32 x (inFour a k))) (mul binary32 y (inFour b k)))
 
 -- two rows times Hᵀ
 unfoldable pub rowsAcross : Four → Four → Eight → Four

@@ -6,7 +6,7 @@ ghost use Prim.Native.Nat.{_≤_};
 ghost use lib.ListN.{length};
 ghost use Rattle.grids.specs.Grid.{cell, grid};
 ghost use Rattle.four_values.specs.Values.{large, inWide, inLarge};
-ghost use Rattle.four_values.specs.Products.{rowTimes, rowsAcross, squareTimes, pairTimes, rowOn, differences, transposed};
+ghost use Rattle.four_values.specs.Products.{rowTimes, withTwo, rowsAcross, squareTimes, pairTimes, rowOn, differences, transposed};
 use side_by_side::Eight;
 use side_by_side::Four;
 use side_by_side::Sixteen;
@@ -20,6 +20,18 @@ pub fn row_times(h: Four, p: Sixteen) -> Four
         t1: 0.0 + h.t0 * p.f0.t1 + h.t1 * p.f1.t1 + h.t2 * p.f2.t1 + h.t3 * p.f3.t1,
         t2: 0.0 + h.t0 * p.f0.t2 + h.t1 * p.f1.t2 + h.t2 * p.f2.t2 + h.t3 * p.f3.t2,
         t3: 0.0 + h.t0 * p.f0.t3 + h.t1 * p.f1.t3 + h.t2 * p.f2.t3 + h.t3 * p.f3.t3,
+    }
+}
+
+// t, and x times the row a and y times the row b on top.
+pub fn with_two(t: Four, x: f32, a: Four, y: f32, b: Four) -> Four
+    ensures { λ v. ⌜ v ≡ withTwo t x a y b ⌝ }
+{
+    Four {
+        t0: t.t0 + x * a.t0 + y * b.t0,
+        t1: t.t1 + x * a.t1 + y * b.t1,
+        t2: t.t2 + x * a.t2 + y * b.t2,
+        t3: t.t3 + x * a.t3 + y * b.t3,
     }
 }
 

@@ -7,8 +7,8 @@ pub mod Overlap
 pub mod Steps
 pub mod Diagonals
 pub mod Shapes
-pub mod Commute
 pub mod Pairs
 pub mod Over
 pub mod Triples
 pub mod Unique
+pub mod RowParts

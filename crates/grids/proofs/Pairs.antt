@@ -15,7 +15,7 @@ use Rattle.grids.specs.Sums.{InPlace}
 use Rattle.grids.proofs.Grids.{run-ext, grid-flat}
 use Rattle.grids.proofs.Calls.{written-by, kept-by}
 use Rattle.grids.proofs.Loops.{Writing, begun, written, unread, all-written}
-use Rattle.grids.proofs.Commute.{terms-commute}
+use Rattle.numbers.proofs.Commute.{terms-commute}
 
 -- i of the n entries of a and b are combined by op and stored in l, which was d
 pub record Storing (op : Float → Float → Float) (n : ℕ) (a b d l : List Float) (i : ℕ) : Type 0 where

@@ -24,7 +24,7 @@ sq-pow k = sym (pow-add 2 k k)
 digits : (p k z : ℕ) → 0 < p → p - 1 + (p - 1) + (k + k) < z → z ≤ p + p + (k + k) → (z + 1) / 2 - p ≡ k
 digits p k z P l u = omega arith
 
-size-over : (n j : ℕ) → 2 ^ j ≤ n → j < size n
+pub size-over : (n j : ℕ) → 2 ^ j ≤ n → j < size n
 size-over n j h = lt-of-not-le (λ (g : size n ≤ j). not-le-of-lt (lt-of-lt-of-le (size-lt n) (pow-mono g)) h)
 
 drops : (p n k : ℕ) → 0 < p → sq (2 ^ (p - 1)) ≤ n → n < sq (2 ^ p) → (size (n * sq (2 ^ k)) + 1) / 2 - p ≡ k

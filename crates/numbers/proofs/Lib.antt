@@ -1,4 +1,4 @@
--- Laws of them, over the format: of square roots of whole numbers, of the root of a float, of sums, of whole-number floats.
+-- Laws of them, over the format: of square roots of whole numbers, of the root of a float, of sums, of whole-number floats, of zeros.
 pub mod Floor
 pub mod Unique
 pub mod Exists
@@ -12,3 +12,5 @@ pub mod Same
 pub mod Exact
 pub mod Sums
 pub mod Commute
+pub mod MinusZero
+pub mod Zeros

@@ -153,7 +153,7 @@ module _ (H a c s k b d g h L : ℕ) (C : 0 < c) (D : 0 < d) (E : 0 < h) (Q : 0 
 
 -- ---- the two in a format
 -- a finite value of the format in units, whatever its sign
-in-steps : (f : Format) (s : Bool) (m : ℕ) (e : ℤ) → T (fits f (fin s m e)) → (Y : ℕ) × ((k : ℕ) → Spaced (2 ^ (prec f - 1)) (2 ^ k) Y) × (m * up e * 2 ^ low f ≡ Y * down e)
+pub in-steps : (f : Format) (s : Bool) (m : ℕ) (e : ℤ) → T (fits f (fin s m e)) → (Y : ℕ) × ((k : ℕ) → Spaced (2 ^ (prec f - 1)) (2 ^ k) Y) × (m * up e * 2 ^ low f ≡ Y * down e)
 in-steps f s zero e t = (0, (λ k. inr (0, sym (zero-mul (2 ^ k)))), ap (λ (x : ℕ). x * 2 ^ low f) (zero-mul (up e)) ∙ zero-mul (2 ^ low f) ∙ sym (zero-mul (down e)))
 in-steps f s (suc m) e t =
     let h = held f s m e t in

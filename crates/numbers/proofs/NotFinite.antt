@@ -1,4 +1,4 @@
--- What is not finite stays so in a sum, in a difference and in a product; and what is finite is what has the difference 0 from itself. By cases. Assumes nothing.
+-- What is not finite stays so in a sum, in a difference and in a product; and what is finite is what has a difference from itself that is not below 0. By cases. Assumes nothing.
 use mathlib.Core.Path.{_≡_, refl, sym, ap, _∙_}
 use mathlib.Core.Logic.{⊎-elim}
 use mathlib.Core.Bool.{Bool, true, false, not, cond, _&&_, Bool·beq, true≢false}
@@ -6,7 +6,8 @@ use Prim.Native.Nat.{ℕ, zero, suc, _*_, _<_}
 use native.Mathlib.Nat.{zero-lt-suc, zero-mul, mul-pos, le-refl, sub-self, not-suc-le-zero, le-of-suc-le-suc, eq-or-lt-of-le}
 use lib.Dec.{eqb}
 use borrow.Author.Tests.{le-ltb}
-use lib.Ieee.{Float, nan, inf, fin, Format, binary32, binary64, up, down, unlike, round, sum, add, sub, mul, neg, eq}
+use lib.IntN.{pos}
+use lib.Ieee.{Float, nan, inf, fin, Format, binary32, binary64, up, down, unlike, round, sum, add, sub, mul, neg, lt, eq, le}
 use lib.Ieee.Fits.{down-pos}
 use lib.Ieee.Scale.{finite, round-same}
 use Rattle.numbers.specs.Sums.{plus0, sumFrom, sumFirst}
@@ -86,25 +87,25 @@ first-not-finite f t (suc n) (suc i) l h = term-not-finite f (t 0) (λ k. t (suc
 
 -- ---- the test that a program makes
 
--- nothing is +0 ..
-nought-whole : (f : Format) → round f false 0 1 ≡ plus0
+-- nothing is a zero, of the sign that it has ..
+nought-whole : (f : Format) (s : Bool) → round f s 0 1 ≡ fin s 0 (pos 0)
 unfolding round
-nought-whole binary32 = refl
-nought-whole binary64 = refl
+nought-whole binary32 s = refl
+nought-whole binary64 s = refl
 
 -- .. over any c
-nought : (f : Format) (c : ℕ) → 0 < c → round f false 0 c ≡ plus0
-nought f c h = round-same f false 0 c 0 1 h (zero-lt-suc 0) (zero-mul 1 ∙ sym (zero-mul c)) ∙ nought-whole f
+pub nought : (f : Format) (s : Bool) (c : ℕ) → 0 < c → round f s 0 c ≡ fin s 0 (pos 0)
+nought f s c h = round-same f s 0 c 0 1 h (zero-lt-suc 0) (zero-mul 1 ∙ sym (zero-mul c)) ∙ nought-whole f s
 
 -- a finite number less itself is +0
 less-itself : (f : Format) (s : Bool) (a c : ℕ) → 0 < c → sum f s a (not s) a c ≡ plus0
 unfolding sum
-less-itself f true a c h = rw (le-ltb a a (le-refl a), sub-self a) (nought f c h)
-less-itself f false a c h = rw (le-ltb a a (le-refl a), sub-self a) (nought f c h)
+less-itself f true a c h = rw (le-ltb a a (le-refl a), sub-self a) (nought f false c h)
+less-itself f false a c h = rw (le-ltb a a (le-refl a), sub-self a) (nought f false c h)
 
--- A number is finite exactly where its difference from itself is 0: that of a NaN or an infinity is a NaN, which equals nothing.
-pub finite-by : (f : Format) (x : Float) → eq (sub f x x) plus0 ≡ finite x
-unfolding sub add neg eq
+-- A number is finite exactly where its difference from itself is not below 0: it is +0 then, and that of a NaN or an infinity is a NaN, which nothing is below or equal to.
+pub finite-by : (f : Format) (x : Float) → le plus0 (sub f x x) ≡ finite x
+unfolding sub add neg lt eq le
 finite-by f nan = refl
 finite-by f (inf true) = refl
 finite-by f (inf false) = refl

@@ -1,6 +1,7 @@
 // The correction of one state by one observation, in straight lines, for the crate above, which has
 // tested sizes and buffers; not for users. Every operand is read first; x and P are stored last, where
-// the pivot is taken and both are finite. Each sum has the start and the order of its definition.
+// the pivot is taken and both are finite. Each sum has the order of its definition, and what is stored
+// has its start.
 ghost use mathlib.Core.Path.{_≡_};
 ghost use mathlib.Core.List.{[]};
 ghost use Prim.Native.Nat.{_≤_};
@@ -40,11 +41,11 @@ pub fn correct_one(
     let h00 = h[0];
     let r00 = r[0];
     let y0 = z[0] - h00 * x0;
-    let g00 = 0.0 + h00 * p00;
-    let s00 = 0.0 + g00 * h00 + r00;
-    let f00 = 0.0 + p00 * h00;
+    let u00 = h00 * p00;
+    let v00 = p00 * h00;
+    let s00 = late_zeros::one_more(u00, h00, r00);
     y[0] = y0;
-    temp_hp[0] = g00;
+    temp_hp[0] = 0.0 + u00;
     if !pivots::taken(s00) {
         s[0] = s00 * 0.0;
         return Answer::Pivot(0);
@@ -52,12 +53,12 @@ pub fn correct_one(
     let l00 = data_type::square_root(s00);
     let d0 = data_type::recip(l00);
     let i00 = 1.0 * d0 * d0;
+    let k00 = late_zeros::once(v00, i00);
+    let t00 = late_zeros::twice(v00, i00, u00);
     s[0] = l00;
     temp_s_inv[0] = i00;
-    temp_pht[0] = f00;
-    let k00 = 0.0 + f00 * i00;
+    temp_pht[0] = 0.0 + v00;
     k[0] = k00;
-    let t00 = 0.0 + k00 * g00;
     temp_khp[0] = t00;
     let w0 = x0 + k00 * y0;
     let n00 = p00 - t00;

@@ -1,6 +1,6 @@
 // Predictions of one and of two states in straight lines, for the crate above, which has tested sizes
-// and buffers; not for users. Every operand is read first and every result stored last; each sum has the
-// start and the order of its definition.
+// and buffers; not for users. Every operand is read first and every result stored last. Each sum has the
+// order of its definition, and what is stored has its start.
 ghost use mathlib.Core.Path.{_≡_};
 ghost use Prim.Native.Nat.{_≤_};
 ghost use lib.ListN.{length};
@@ -28,11 +28,11 @@ pub fn predict_one(
     let p00 = p[0];
     let q00 = q[0];
     let y0 = a00 * x0;
-    let t00 = 0.0 + a00 * p00;
-    let n00 = 0.0 + t00 * a00 + q00;
+    let u00 = a00 * p00;
+    let n00 = late_zeros::one_more(u00, a00, q00);
     x[0] = y0;
     predicted[0] = y0;
-    temp[0] = t00;
+    temp[0] = 0.0 + u00;
     p[0] = n00;
 }
 
@@ -67,16 +67,16 @@ pub fn predict_two(
     let q11 = q[3];
     let y0 = a00 * x0 + a01 * x1;
     let y1 = a10 * x0 + a11 * x1;
-    let t00 = 0.0 + a00 * p00 + a01 * p10;
-    let t01 = 0.0 + a00 * p01 + a01 * p11;
-    let t10 = 0.0 + a10 * p00 + a11 * p10;
-    let t11 = 0.0 + a10 * p01 + a11 * p11;
-    let n00 = 0.0 + t00 * a00 + t01 * a01 + q00;
-    let n01 = 0.0 + t00 * a10 + t01 * a11 + q01;
-    let n10 = 0.0 + t10 * a00 + t11 * a01 + q10;
-    let n11 = 0.0 + t10 * a10 + t11 * a11 + q11;
+    let u00 = a00 * p00 + a01 * p10;
+    let u01 = a00 * p01 + a01 * p11;
+    let u10 = a10 * p00 + a11 * p10;
+    let u11 = a10 * p01 + a11 * p11;
+    let n00 = late_zeros::two_more(u00, a00, u01, a01, q00);
+    let n01 = late_zeros::two_more(u00, a10, u01, a11, q01);
+    let n10 = late_zeros::two_more(u10, a00, u11, a01, q10);
+    let n11 = late_zeros::two_more(u10, a10, u11, a11, q11);
     side_by_side::put_two(x, 0, y0, y1);
     side_by_side::put_two(predicted, 0, y0, y1);
-    side_by_side::put_four(temp, 0, t00, t01, t10, t11);
+    side_by_side::put_four(temp, 0, 0.0 + u00, 0.0 + u01, 0.0 + u10, 0.0 + u11);
     side_by_side::put_four(p, 0, n00, n01, n10, n11);
 }

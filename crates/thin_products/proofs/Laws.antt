@@ -19,14 +19,21 @@ use Rattle.thin_products.specs.Thin.{numberAt, strided}
 
 -- ---- some of three
 
-module _ (t : Three) {at cols : ℕ} {l : List Float} where
-  -- the first is stored
-  pub one-put : 1 ≤ cols → Writing at cols (numberAt t) l (set l at (t .t0)) 1
-  one-put h = one-more begun h (omega arith) refl refl
+module _ {at cols : ℕ} {g : ℕ → Float} {l l' : List Float} where
+  -- the first is stored, and the second where there are two columns
+  pub some-put :
+      {t0 t1 : Float} → 1 ≤ cols → t0 ≡ g 0 → t1 ≡ g 1 → ((2 ≤ cols) × (l' ≡ set (set l at t0) (at + 1) t1)) ⊎ ((cols < 2) × (l' ≡ set l at t0)) → Writing at cols g l l' (min cols 2)
+  some-put {t0} {t1} h e d came =
+      ⊎-elim
+      (λ s. let two : min cols 2 ≡ 2 = omega (arith, s .0) in rw (s .1, two) (one-more (first (omega (arith, s .0))) (s .0) refl refl d))
+      (λ s. let one : min cols 2 ≡ 1 = omega (arith, s .0, h) in rw (s .1, one) (first h)) came
+    where
+      first : 1 ≤ cols → Writing at cols g l (set l at t0) 1
+      first h = one-more begun h (omega arith) refl e
 
-  -- and the second
-  pub two-put : 2 ≤ cols → Writing at cols (numberAt t) l (set (set l at (t .t0)) (at + 1) (t .t1)) 2
-  two-put h = one-more (one-put (omega arith)) h refl refl refl
+  -- and the third where there are three
+  pub third-put : {t2 : Float} → 3 ≤ cols → t2 ≡ g 2 → Writing at cols g l l' (min cols 2) → Writing at cols g l (set l' (at + 2) t2) 3
+  third-put h e w = let two : min cols 2 ≡ 2 = omega (arith, h) in one-more (rw two at w) h refl refl e
 
 -- ---- where the columns lie
 
@@ -85,10 +92,12 @@ module _ (f : Format) (inner : ℕ) (a : ℕ → ℕ → Float) (b : List Float)
       h .2 ∙ sum-same f plus0 _ _ inner (λ k l. right-at f (a r k) b (omega (arith, o .third, ap (λ (i : ℕ). i * over) e)))
   entry-at t r few o h (suc (suc (suc j))) lt = absurd (omega arith)
 
-  -- so a row is written where they are stored
+  -- so a row is written where they are stored, or what is made of them
   pub row-put :
-      {rows r : ℕ} {l₀ l l' : List Float} (t : Three) → Rows rows cols (times f inner a (strided up over b)) l₀ l r → r < rows → cols ≤ 3 → Offsets cols over one two
-      → Totals f inner (a r) b up one two t → l' ≡ run (r * cols) cols (numberAt t) l
-      → Rows rows cols (times f inner a (strided up over b)) l₀ l' (r + 1)
-  row-put {rows} {r} {l₀} {l} t w lt few o h q =
-      row-more w lt (q ∙ run-ext (r * cols) cols (numberAt t) (times f inner a (strided up over b) r) l (entry-at t r few o h)) (λ j. refl)
+      (made : ℕ → ℕ → Float → Float) {rows r : ℕ} {l₀ l l' : List Float} (t : Three) → Rows rows cols (λ i j. made i j (times f inner a (strided up over b) i j)) l₀ l r → r < rows
+      → cols ≤ 3 → Offsets cols over one two → Totals f inner (a r) b up one two t → l' ≡ run (r * cols) cols (λ j. made r j (numberAt t j)) l
+      → Rows rows cols (λ i j. made i j (times f inner a (strided up over b) i j)) l₀ l' (r + 1)
+  row-put made {rows} {r} {l₀} {l} t w lt few o h q =
+      row-more w lt
+      (q ∙ run-ext (r * cols) cols (λ j. made r j (numberAt t j)) (λ j. made r j (times f inner a (strided up over b) r j)) l (λ j in-row. ap (made r j) (entry-at t r few o h j in-row)))
+      (λ j. refl)

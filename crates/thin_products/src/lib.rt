@@ -19,7 +19,7 @@ pub struct Three {
 }
 
 // The totals of row r of a with three columns of b, which lie at 0, one and two in its first row.
-fn three_totals(
+pub fn three_totals(
     inner: usize,
     a: &[f32],
     b: &[f32],
@@ -64,7 +64,7 @@ fn put_some(c: &mut [f32], at: usize, cols: usize, t: Three)
 }
 
 // The matrix, into c, row after row.
-pub fn thin_cells(
+fn thin_rows(
     rows: usize,
     inner: usize,
     cols: usize,
@@ -88,5 +88,58 @@ pub fn thin_cells(
             three_totals(inner, &*a, &*b, r, up, one, two),
         );
         r += 1;
+    }
+}
+
+// The matrix of three columns, into c. Of what the compiler knows it makes no loop: b by rows or by columns,
+// three or six products a sum, which are common.
+fn three_columns(
+    rows: usize,
+    inner: usize,
+    cols: usize,
+    a: &[f32],
+    b: &[f32],
+    up: usize,
+    over: usize,
+    c: &mut [f32],
+)
+    requires { ⌜ (1 ≤ cols) × (cols ≤ 3) × (over ≤ 16) × (rows * inner ≤ length (now a)) × ((k j : ℕ) → k < inner → j < cols → k * up + j * over < length (now b)) × (rows * cols ≤ length (now c)) ⌝ }
+    ensures { λ _. ⌜ now (c .exit) ≡ grid rows cols (times binary32 inner (cell inner (now (a .entry))) (strided up over (now (b .entry)))) (now (c .entry)) ⌝ }
+{
+    if over == 1 {
+        if inner == 3 {
+            thin_rows(rows, inner, cols, &*a, &*b, up, over, c);
+        } else {
+            thin_rows(rows, inner, cols, &*a, &*b, up, over, c);
+        }
+    } else if up == 1 {
+        if inner == 6 {
+            thin_rows(rows, inner, cols, &*a, &*b, up, over, c);
+        } else {
+            thin_rows(rows, inner, cols, &*a, &*b, up, over, c);
+        }
+    } else {
+        thin_rows(rows, inner, cols, &*a, &*b, up, over, c);
+    }
+}
+
+// The matrix, into c.
+pub fn thin_cells(
+    rows: usize,
+    inner: usize,
+    cols: usize,
+    a: &[f32],
+    b: &[f32],
+    up: usize,
+    over: usize,
+    c: &mut [f32],
+)
+    requires { ⌜ (1 ≤ cols) × (cols ≤ 3) × (over ≤ 16) × (rows * inner ≤ length (now a)) × ((k j : ℕ) → k < inner → j < cols → k * up + j * over < length (now b)) × (rows * cols ≤ length (now c)) ⌝ }
+    ensures { λ _. ⌜ now (c .exit) ≡ grid rows cols (times binary32 inner (cell inner (now (a .entry))) (strided up over (now (b .entry)))) (now (c .entry)) ⌝ }
+{
+    if cols == 3 {
+        three_columns(rows, inner, cols, &*a, &*b, up, over, c);
+    } else {
+        thin_rows(rows, inner, cols, &*a, &*b, up, over, c);
     }
 }

@@ -7,6 +7,14 @@ ghost use lib.Ieee.{binary32};
 ghost use Rattle.grids.specs.Grid.{run, grid};
 ghost use Rattle.entries.specs.Entries.{product};
 
+// Row r of four columns, into c.
+fn row_of_one(inner: usize, cols: usize, a: &[f32], b: &[f32], r: usize, c: &mut [f32])
+    requires { ⌜ (4 ≤ cols) × (cols ≤ 4) × (r * inner + inner ≤ length (now a)) × (inner * cols ≤ length (now b)) × (r * cols + cols ≤ length (now c)) ⌝ }
+    ensures { λ _. ⌜ now (c .exit) ≡ run (r * cols) cols (product binary32 inner cols (now (a .entry)) (now (b .entry)) r) (now (c .entry)) ⌝ }
+{
+    side_by_side::put(c, r * cols, row_chunks::one_chunk(inner, cols, &*a, &*b, r));
+}
+
 // Row r of four to eight columns, into c.
 fn row_of_two(inner: usize, cols: usize, a: &[f32], b: &[f32], r: usize, c: &mut [f32])
     requires { ⌜ (4 ≤ cols) × (cols ≤ 8) × (r * inner + inner ≤ length (now a)) × (inner * cols ≤ length (now b)) × (r * cols + cols ≤ length (now c)) ⌝ }
@@ -32,29 +40,54 @@ fn row_of_three(inner: usize, cols: usize, a: &[f32], b: &[f32], r: usize, c: &m
     side_by_side::put(c, at + last, t.f2);
 }
 
-// Row r of four to twelve columns, into c.
-fn wide_row(inner: usize, cols: usize, a: &[f32], b: &[f32], r: usize, c: &mut [f32])
-    requires { ⌜ (4 ≤ cols) × (cols ≤ 12) × (r * inner + inner ≤ length (now a)) × (inner * cols ≤ length (now b)) × (r * cols + cols ≤ length (now c)) ⌝ }
-    ensures { λ _. ⌜ now (c .exit) ≡ run (r * cols) cols (product binary32 inner cols (now (a .entry)) (now (b .entry)) r) (now (c .entry)) ⌝ }
-{
-    if cols == 4 {
-        side_by_side::put(c, r * cols, row_chunks::one_chunk(inner, cols, &*a, &*b, r));
-    } else if cols <= 8 {
-        row_of_two(inner, cols, &*a, &*b, r, c);
-    } else {
-        row_of_three(inner, cols, &*a, &*b, r, c);
-    }
-}
-
-// The matrix of four to twelve columns, into c, row after row.
-fn rows_one_by_one(rows: usize, inner: usize, cols: usize, a: &[f32], b: &[f32], c: &mut [f32])
-    requires { ⌜ (4 ≤ cols) × (cols ≤ 12) × (rows * inner ≤ length (now a)) × (inner * cols ≤ length (now b)) × (rows * cols ≤ length (now c)) ⌝ }
+// The matrix of four columns, into c, row after row.
+fn rows_of_one(rows: usize, inner: usize, cols: usize, a: &[f32], b: &[f32], c: &mut [f32])
+    requires { ⌜ (4 ≤ cols) × (cols ≤ 4) × (rows * inner ≤ length (now a)) × (inner * cols ≤ length (now b)) × (rows * cols ≤ length (now c)) ⌝ }
     ensures { λ _. ⌜ now (c .exit) ≡ grid rows cols (product binary32 inner cols (now (a .entry)) (now (b .entry))) (now (c .entry)) ⌝ }
 {
     let mut r: usize = 0;
     while r < rows {
-        wide_row(inner, cols, &*a, &*b, r, c);
+        row_of_one(inner, cols, &*a, &*b, r, c);
         r += 1;
+    }
+}
+
+// The matrix of four to eight columns, into c, row after row.
+fn rows_of_two(rows: usize, inner: usize, cols: usize, a: &[f32], b: &[f32], c: &mut [f32])
+    requires { ⌜ (4 ≤ cols) × (cols ≤ 8) × (rows * inner ≤ length (now a)) × (inner * cols ≤ length (now b)) × (rows * cols ≤ length (now c)) ⌝ }
+    ensures { λ _. ⌜ now (c .exit) ≡ grid rows cols (product binary32 inner cols (now (a .entry)) (now (b .entry))) (now (c .entry)) ⌝ }
+{
+    let mut r: usize = 0;
+    while r < rows {
+        row_of_two(inner, cols, &*a, &*b, r, c);
+        r += 1;
+    }
+}
+
+// The matrix of eight to twelve columns, into c, row after row.
+fn rows_of_three(rows: usize, inner: usize, cols: usize, a: &[f32], b: &[f32], c: &mut [f32])
+    requires { ⌜ (8 ≤ cols) × (cols ≤ 12) × (rows * inner ≤ length (now a)) × (inner * cols ≤ length (now b)) × (rows * cols ≤ length (now c)) ⌝ }
+    ensures { λ _. ⌜ now (c .exit) ≡ grid rows cols (product binary32 inner cols (now (a .entry)) (now (b .entry))) (now (c .entry)) ⌝ }
+{
+    let mut r: usize = 0;
+    while r < rows {
+        row_of_three(inner, cols, &*a, &*b, r, c);
+        r += 1;
+    }
+}
+
+// The matrix of four to eight columns, into c. Three and six products a sum are common: there the compiler
+// knows how many turns its loop has, and writes them out.
+fn two_chunks_wide(rows: usize, inner: usize, cols: usize, a: &[f32], b: &[f32], c: &mut [f32])
+    requires { ⌜ (4 ≤ cols) × (cols ≤ 8) × (rows * inner ≤ length (now a)) × (inner * cols ≤ length (now b)) × (rows * cols ≤ length (now c)) ⌝ }
+    ensures { λ _. ⌜ now (c .exit) ≡ grid rows cols (product binary32 inner cols (now (a .entry)) (now (b .entry))) (now (c .entry)) ⌝ }
+{
+    if inner == 3 {
+        rows_of_two(rows, inner, cols, &*a, &*b, c);
+    } else if inner == 6 {
+        rows_of_two(rows, inner, cols, &*a, &*b, c);
+    } else {
+        rows_of_two(rows, inner, cols, &*a, &*b, c);
     }
 }
 
@@ -63,8 +96,12 @@ pub fn wide_cells(rows: usize, inner: usize, cols: usize, a: &[f32], b: &[f32], 
     requires { ⌜ (4 ≤ cols) × (cols ≤ 16) × (rows * inner ≤ length (now a)) × (inner * cols ≤ length (now b)) × (rows * cols ≤ length (now c)) ⌝ }
     ensures { λ _. ⌜ now (c .exit) ≡ grid rows cols (product binary32 inner cols (now (a .entry)) (now (b .entry))) (now (c .entry)) ⌝ }
 {
-    if cols <= 12 {
-        rows_one_by_one(rows, inner, cols, &*a, &*b, c);
+    if cols == 4 {
+        rows_of_one(rows, inner, cols, &*a, &*b, c);
+    } else if cols <= 8 {
+        two_chunks_wide(rows, inner, cols, &*a, &*b, c);
+    } else if cols <= 12 {
+        rows_of_three(rows, inner, cols, &*a, &*b, c);
     } else {
         row_pairs::paired_cells(rows, inner, cols, &*a, &*b, c);
     }

@@ -32,12 +32,35 @@ fn turn(inner: usize, cols: usize, b: &[f32], t: &mut [f32])
     }
 }
 
-// The matrix, into c, for b of four to sixteen rows and at most 256 numbers.
+// The matrix, into c, for b of four to sixteen rows, with bᵀ in t.
+fn by_way_of(
+    rows: usize,
+    inner: usize,
+    cols: usize,
+    a: &[f32],
+    b: &[f32],
+    t: &mut [f32],
+    c: &mut [f32],
+)
+    requires { ⌜ (4 ≤ cols) × (cols ≤ 16) × (inner * cols ≤ length (now t)) × (rows * inner ≤ length (now a)) × (cols * inner ≤ length (now b)) × (rows * cols ≤ length (now c)) ⌝ }
+    ensures t { λ _. ⌜ now (t .exit) ≡ grid inner cols (λ k j. cell inner (now (b .entry)) j k) (now (t .entry)) ⌝ }
+    ensures c { λ _. ⌜ now (c .exit) ≡ grid rows cols (productT binary32 inner (now (a .entry)) (now (b .entry))) (now (c .entry)) ⌝ }
+{
+    turn(inner, cols, &*b, t);
+    times_matrix::wide_cells(rows, inner, cols, &*a, t, c);
+}
+
+// The matrix, into c, for b of four to sixteen rows and at most 256 numbers. An array is cleared before it
+// is used, so that few numbers have a small one.
 pub fn turned_cells(rows: usize, inner: usize, cols: usize, a: &[f32], b: &[f32], c: &mut [f32])
     requires { ⌜ (4 ≤ cols) × (cols ≤ 16) × (cols * inner ≤ 256) × (rows * inner ≤ length (now a)) × (cols * inner ≤ length (now b)) × (rows * cols ≤ length (now c)) ⌝ }
     ensures { λ _. ⌜ now (c .exit) ≡ grid rows cols (productT binary32 inner (now (a .entry)) (now (b .entry))) (now (c .entry)) ⌝ }
 {
-    let mut t: [f32; 256] = [0.0; 256];
-    turn(inner, cols, &*b, &mut t);
-    times_matrix::wide_cells(rows, inner, cols, &*a, &t, c);
+    if cols * inner <= 64 {
+        let mut t: [f32; 64] = [0.0; 64];
+        by_way_of(rows, inner, cols, &*a, &*b, &mut t, c);
+    } else {
+        let mut t: [f32; 256] = [0.0; 256];
+        by_way_of(rows, inner, cols, &*a, &*b, &mut t, c);
+    }
 }

@@ -3,9 +3,9 @@
 ghost use mathlib.Core.Path.{_≡_};
 ghost use Prim.Native.Nat.{_*_, _≤_};
 ghost use lib.ListN.{length};
-ghost use lib.Ieee.{binary32};
+ghost use lib.Ieee.{binary32, add};
 ghost use Rattle.grids.specs.Grid.{cell, run, grid};
-ghost use Rattle.entries.specs.Entries.{times, numbers};
+ghost use Rattle.entries.specs.Entries.{times, productT, numbers};
 ghost use Rattle.factors.specs.Inverse.{inverse};
 ghost use Rattle.filters.specs.Correction.{innovationOf, HPOf, factorOf, pivotOf, PHtOf};
 
@@ -16,6 +16,19 @@ pub fn innovate_cells(n: usize, m: usize, x: &[f32], h: &[f32], z: &[f32], y: &m
 {
     times_vector::rowvector_cells(m, n, &*h, &*x, y);
     sums::cores::sub_cells_b(m, &*z, y);
+}
+
+// S = temp_HP·Hᵀ + R: in one go where S is small.
+fn undecomposed_cells(n: usize, m: usize, temp_hp: &[f32], h: &[f32], r: &[f32], s: &mut [f32])
+    requires { ⌜ (m * n ≤ length (now «temp_hp»)) × (m * n ≤ length (now h)) × (m * m ≤ length (now r)) × (m * m ≤ length (now s)) × (1 ≤ m) × (n ≤ 16) × (m ≤ 16) ⌝ }
+    ensures { λ _. ⌜ now (s .exit) ≡ grid m m (λ i j. add binary32 (productT binary32 n (now («temp_hp» .entry)) (now (h .entry)) i j) (cell m (now (r .entry)) i j)) (now (s .entry)) ⌝ }
+{
+    if m < 4 {
+        thin_sums::thin_plus(m, n, m, &*temp_hp, &*h, &*r, s);
+    } else {
+        times_transpose::transb_cells(m, n, m, &*temp_hp, &*h, s);
+        sums::cores::add_cells_a(m * m, s, &*r);
+    }
 }
 
 // temp_HP = H·P, and S = temp_HP·Hᵀ + R decomposed: the index of the pivot that is refused comes
@@ -35,8 +48,7 @@ pub fn residual_cells(
     ensures s { λ _. ⌜ now (s .exit) ≡ grid m m (factorOf binary32 n m (cell n (now (h .entry))) (cell n (now (p .entry))) (cell m (now (r .entry)))) (now (s .entry)) ⌝ }
 {
     times_matrix::mult_cells(m, n, n, &*h, &*p, temp_hp);
-    times_transpose::transb_cells(m, n, m, temp_hp, &*h, s);
-    sums::cores::add_cells_a(m * m, s, &*r);
+    undecomposed_cells(n, m, temp_hp, &*h, &*r, s);
     cholesky::cores::decompose_cells(m, s)
 }
 

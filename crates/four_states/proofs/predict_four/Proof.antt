@@ -11,8 +11,8 @@ use Rattle.four_states.proofs.predict_four.Tie as tie
 abbrev start : tie.After-read-sixteen → tie.Start
 start c = c .before .before .before .before .before .before .before
 
-abbrev made : tie.After-all-plus → tie.Start
-made c = start (c .before .before .before .before .before .before .before .before .before .before)
+abbrev made : tie.After-times-plus → tie.Start
+made c = start (c .before .before .before .before .before .before .before .before .before)
 
 returns : tie.Need-returns
 unfolding run
@@ -22,7 +22,7 @@ returns c =
     let predicted = temp .before .before .before .before in
     let x = predicted .before .before .before .before in
     let n = x .before .before in
-    let t = n .before .before .before .before in
+    let t = n .before .before .before in
     let on = t .before .before .before in
     let a = on .before .before .before in
     let args = start a .args in
@@ -33,7 +33,7 @@ returns c =
       (
         x-left A (a .read-sixteen .ensures) (numbers (now (args .x))) v (on .all-on .ensures) (now (args .predicted)) (predicted .put2 .ensures),
         (
-          P-left A (a .read-sixteen .ensures) P (t .before .read-sixteen2 .ensures) (t .all-times .ensures) (cell 4 (now (args .q))) (n .before .before .before .turned .ensures) (n .before .before .all-times2 .ensures) (n .before .read-sixteen3 .ensures) (n .all-plus .ensures) (now (args .p)) (p .put-sixteen2 .ensures),
+          P-left A (a .read-sixteen .ensures) P (t .before .read-sixteen2 .ensures) (t .all-times .ensures) (cell 4 (now (args .q))) (n .before .before .turned .ensures) (n .before .read-sixteen3 .ensures) (n .times-plus .ensures) (now (args .p)) (p .put-sixteen2 .ensures),
           temp-left A (a .read-sixteen .ensures) P (t .before .read-sixteen2 .ensures) (t .all-times .ensures) (now (args .temp)) (temp .put-sixteen .ensures),
         ),
       ),
@@ -49,8 +49,7 @@ predict-four-spec =
     (λ c κs. start (c .before .before .before .before) .pre .2)
     (λ c κs. tt)
     (λ c κs. tt)
-    (λ c κs. tt)
-    (λ c κs. start (c .before .before .before .before .before .before .before .before) .pre .3)
+    (λ c κs. start (c .before .before .before .before .before .before .before) .pre .3)
     (λ c κs. tt)
     (λ c κs. made (c .before) .pre .0)
     (λ c κs. made (c .before .before .before .before .before) .pre .4)

@@ -1,10 +1,6 @@
 -- `correction` meets its contract: the tests from R on after that of z and those before it. Assumes nothing.
-use mathlib.Core.Path.{ap, _∙_}
-use Rattle.answers.specs.declared.Answer.{Answer}
-use Rattle.answers.specs.Tests.{bufferTests, afterTests}
-use Rattle.filters.specs.Lent.{fromR}
-use Rattle.filters.proofs.CorrectionFits.{after}
 use borrow.Author.Needs.{needs}
+use Rattle.filters.proofs.CorrectionFits.{after, after-two, after-three}
 use Rattle.observation_gates.proofs.correction.Statement.{statement}
 use Rattle.observation_gates.proofs.correction.Tie as tie
 
@@ -14,14 +10,17 @@ front-of-requires c κs = search needs
 then-buffer-requires : tie.Need-then-buffer-requires
 then-buffer-requires c κs = search needs
 
-from-r-requires : tie.Need-from-r-requires
-from-r-requires c κs = search needs
+then-residual-requires : tie.Need-then-residual-requires
+then-residual-requires c κs = search needs
+
+then-gain-requires : tie.Need-then-gain-requires
+then-gain-requires c κs = search needs
+
+then-products-requires : tie.Need-then-products-requires
+then-products-requires c κs = search needs
 
 returns : tie.Need-returns
-returns c =
-    let a = c .before .before .before .args in
-    c .from-r .ensures ∙ ap (λ (v : Answer). afterTests v (bufferTests 4 (fromR (a .n) (a .m) (a .lr) (a .ly) (a .ls) (a .lk) (a .li) (a .lhp) (a .lpht) (a .lkhp)))) (after _ _ _ (c .before .then-buffer .ensures) (c .before .before .front-of .ensures))
+returns c = after-three _ _ _ _ _ (c .then-products .ensures) (after-two _ _ _ _ (c .before .then-gain .ensures) (after-three _ _ _ _ _ (c .before .before .then-residual .ensures) (after _ _ _ (c .before .before .before .then-buffer .ensures) (c .before .before .before .before .front-of .ensures))))
 
 pub correction-spec : {M : Type 1} → statement M
-correction-spec =
-    tie.close (tie.spec front-of-requires then-buffer-requires from-r-requires returns)
+correction-spec = tie.close (tie.spec front-of-requires then-buffer-requires then-residual-requires then-gain-requires then-products-requires returns)

@@ -1,22 +1,23 @@
 -- `update` meets its contract: the tests from R on after those before it. Assumes nothing.
-use mathlib.Core.Path.{ap, _∙_}
-use Rattle.answers.specs.declared.Answer.{Answer}
-use Rattle.answers.specs.Tests.{bufferTests, afterTests}
-use Rattle.filters.specs.Lent.{fromR}
 use borrow.Author.Needs.{needs}
+use Rattle.filters.proofs.CorrectionFits.{after-two, after-three}
 use Rattle.observation_gates.proofs.update.Statement.{statement}
 use Rattle.observation_gates.proofs.update.Tie as tie
 
 front-of-requires : tie.Need-front-of-requires
 front-of-requires c κs = search needs
 
-from-r-requires : tie.Need-from-r-requires
-from-r-requires c κs = search needs
+then-residual-requires : tie.Need-then-residual-requires
+then-residual-requires c κs = search needs
+
+then-gain-requires : tie.Need-then-gain-requires
+then-gain-requires c κs = search needs
+
+then-products-requires : tie.Need-then-products-requires
+then-products-requires c κs = search needs
 
 returns : tie.Need-returns
-returns c =
-    let a = c .before .before .args in
-    c .from-r .ensures ∙ ap (λ (v : Answer). afterTests v (bufferTests 3 (fromR (a .n) (a .m) (a .lr) (a .ly) (a .ls) (a .lk) (a .li) (a .lhp) (a .lpht) (a .lkhp)))) (c .before .front-of .ensures)
+returns c = after-three _ _ _ _ _ (c .then-products .ensures) (after-two _ _ _ _ (c .before .then-gain .ensures) (after-three _ _ _ _ _ (c .before .before .then-residual .ensures) (c .before .before .before .front-of .ensures)))
 
 pub update-spec : {M : Type 1} → statement M
-update-spec = tie.close (tie.spec front-of-requires from-r-requires returns)
+update-spec = tie.close (tie.spec front-of-requires then-residual-requires then-gain-requires then-products-requires returns)

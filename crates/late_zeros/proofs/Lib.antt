@@ -1,0 +1,2 @@
+-- The laws of the forms.
+pub mod Starts

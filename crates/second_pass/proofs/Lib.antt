@@ -1,0 +1,2 @@
+-- Laws of the row's inner sums, one and four side by side.
+pub mod RowSums

@@ -1,0 +1,2 @@
+-- The law of two states.
+mod Two

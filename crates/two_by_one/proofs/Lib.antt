@@ -1,0 +1,2 @@
+-- The laws of the whole.
+mod Whole

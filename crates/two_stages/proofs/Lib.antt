@@ -1,0 +1,2 @@
+-- The law of a renewal.
+pub mod Parts

@@ -1,0 +1,2 @@
+-- The definitions that the contracts cite: each stage of the correction on values.
+pub mod Stages
