@@ -3,11 +3,13 @@
 // What the update and the correction share is in pieces of two and three tests: the compiler takes so
 // small a function into both of its callers, and no answer goes through memory.
 ghost use mathlib.Core.Path.{_≡_};
+ghost use mathlib.Core.Bool.{true, _&&_};
 ghost use mathlib.Core.List.{[], _∷_, _++_};
 ghost use Prim.Native.Nat.{_+_, _*_, _≤_};
-ghost use Rattle.answers.specs.Answers.{firstOf};
-ghost use Rattle.answers.specs.Tests.{lent, bufferTest, callAnswer};
-ghost use Rattle.filters.specs.Lent.{front, fromR, innovationAnswer};
+ghost use lib.Dec.{leb};
+ghost use Rattle.answers.specs.Answers.{isDone, firstOf};
+ghost use Rattle.answers.specs.Tests.{lent, bufferTest, bufferTests, afterTests, callAnswer};
+ghost use Rattle.filters.specs.Lent.{front, fromR, allFit, innovationAnswer};
 use answers::Answer;
 
 // The answer for x, H, z and y, of which each length is given.
@@ -70,6 +72,45 @@ fn then_products(
     answers::then_matrix(pht, i + 2, n, n, lkhp)
 }
 
+// Whether it was so far, and a buffer of len numbers has as many as its matrix has cells.
+fn fits_too(so_far: bool, cells: usize, len: usize) -> bool
+    ensures { λ v. ⌜ v ≡ «so_far» && leb cells len ⌝ }
+{
+    so_far && cells <= len
+}
+
+// Whether z, R, y, S, K, temp_S_inv, temp_HP, temp_PHt and temp_KHP hold their matrices.
+fn rest_fits(
+    n: usize,
+    m: usize,
+    lz: usize,
+    lr: usize,
+    ly: usize,
+    ls: usize,
+    lk: usize,
+    li: usize,
+    lhp: usize,
+    lpht: usize,
+    lkhp: usize,
+) -> bool
+    requires { ⌜ (n ≤ 16) × (m ≤ 16) ⌝ }
+    ensures { λ v. ⌜ v ≡ allFit true (lent m lz ∷ fromR n m lr ly ls lk li lhp lpht lkhp) ⌝ }
+{
+    let mm = m * m;
+    let nm = n * m;
+    let mn = m * n;
+    let nn = n * n;
+    let z = fits_too(true, m, lz);
+    let r = fits_too(z, mm, lr);
+    let y = fits_too(r, m, ly);
+    let s = fits_too(y, mm, ls);
+    let k = fits_too(s, nm, lk);
+    let inv = fits_too(k, mm, li);
+    let hp = fits_too(inv, mn, lhp);
+    let pht = fits_too(hp, nm, lpht);
+    fits_too(pht, nn, lkhp)
+}
+
 // The answer for x, P, H, R, y, S, K, temp_S_inv, temp_HP, temp_PHt and temp_KHP.
 pub fn update(
     n: usize,
@@ -94,7 +135,59 @@ pub fn update(
     then_products(inv, 8, n, m, lhp, lpht, lkhp)
 }
 
-// The answer for x, P, H, z, R, y, S, K, temp_S_inv, temp_HP, temp_PHt and temp_KHP.
+// Whether there are two observations or more, the answer so far is done, and those buffers fit too.
+fn all_fit(
+    v: Answer,
+    n: usize,
+    m: usize,
+    lz: usize,
+    lr: usize,
+    ly: usize,
+    ls: usize,
+    lk: usize,
+    li: usize,
+    lhp: usize,
+    lpht: usize,
+    lkhp: usize,
+) -> bool
+    requires { ⌜ (isDone v ≡ true → (n ≤ 16) × (m ≤ 16)) ⌝ }
+    ensures { λ w. ⌜ w ≡ leb 2 m && (isDone v && allFit true (lent m lz ∷ fromR n m lr ly ls lk li lhp lpht lkhp)) ⌝ }
+{
+    if m < 2 {
+        return false;
+    }
+    if answers::is_done(v) {
+        return rest_fits(n, m, lz, lr, ly, ls, lk, li, lhp, lpht, lkhp);
+    }
+    false
+}
+
+// The answer so far, and then for z, R, y, S, K, temp_S_inv, temp_HP, temp_PHt and temp_KHP.
+fn rest_of(
+    v: Answer,
+    n: usize,
+    m: usize,
+    lz: usize,
+    lr: usize,
+    ly: usize,
+    ls: usize,
+    lk: usize,
+    li: usize,
+    lhp: usize,
+    lpht: usize,
+    lkhp: usize,
+) -> Answer
+    ensures { λ a. ⌜ a ≡ afterTests v (bufferTests 3 (lent m lz ∷ fromR n m lr ly ls lk li lhp lpht lkhp)) ⌝ }
+{
+    let z = answers::then_buffer(v, 3, m, lz);
+    let s = then_residual(z, 4, m, lr, ly, ls);
+    let inv = then_gain(s, 7, n, m, lk, li);
+    then_products(inv, 9, n, m, lhp, lpht, lkhp)
+}
+
+// The answer for x, P, H, z, R, y, S, K, temp_S_inv, temp_HP, temp_PHt and temp_KHP. The compiler makes one
+// jump of nine tests whose outcome is one bit; only a call that is refused, or has one observation, asks
+// them one by one.
 pub fn correction(
     n: usize,
     m: usize,
@@ -114,8 +207,8 @@ pub fn correction(
     ensures { λ v. ⌜ v ≡ callAnswer (n ∷ m ∷ []) (front n m lx lp lh ++ lent m lz ∷ fromR n m lr ly ls lk li lhp lpht lkhp) [] ⌝ }
 {
     let h = front_of(n, m, lx, lp, lh);
-    let z = answers::then_buffer(h, 3, m, lz);
-    let s = then_residual(z, 4, m, lr, ly, ls);
-    let inv = then_gain(s, 7, n, m, lk, li);
-    then_products(inv, 9, n, m, lhp, lpht, lkhp)
+    if all_fit(h, n, m, lz, lr, ly, ls, lk, li, lhp, lpht, lkhp) {
+        return Answer::Done;
+    }
+    rest_of(h, n, m, lz, lr, ly, ls, lk, li, lhp, lpht, lkhp)
 }

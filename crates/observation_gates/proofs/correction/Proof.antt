@@ -1,26 +1,27 @@
--- `correction` meets its contract: the tests from R on after that of z and those before it. Assumes nothing.
+-- `correction` meets its contract: where all buffers fit the answer is done, and else the tests from z on come after those before it. Assumes nothing.
+use mathlib.Core.Path.{ap, _∙_}
+use mathlib.Core.List.{_∷_}
 use borrow.Author.Needs.{needs}
-use Rattle.filters.proofs.CorrectionFits.{after, after-two, after-three}
+use Rattle.answers.specs.declared.Answer.{Answer}
+use Rattle.answers.specs.Tests.{lent, bufferTests, afterTests}
+use Rattle.filters.specs.Lent.{fromR}
+use Rattle.filters.proofs.CorrectionFits.{rest-passes, sizes-few}
 use Rattle.observation_gates.proofs.correction.Statement.{statement}
 use Rattle.observation_gates.proofs.correction.Tie as tie
 
-front-of-requires : tie.Need-front-of-requires
-front-of-requires c κs = search needs
-
-then-buffer-requires : tie.Need-then-buffer-requires
-then-buffer-requires c κs = search needs
-
-then-residual-requires : tie.Need-then-residual-requires
-then-residual-requires c κs = search needs
-
-then-gain-requires : tie.Need-then-gain-requires
-then-gain-requires c κs = search needs
-
-then-products-requires : tie.Need-then-products-requires
-then-products-requires c κs = search needs
+all-fit-requires : tie.Need-all-fit-requires
+all-fit-requires c κs e = let a = c .before .args in sizes-few (a .n) (a .m) (a .lx) (a .lp) (a .lh) _ (c .front-of .ensures) e
 
 returns : tie.Need-returns
-returns c = after-three _ _ _ _ _ (c .then-products .ensures) (after-two _ _ _ _ (c .before .then-gain .ensures) (after-three _ _ _ _ _ (c .before .before .then-residual .ensures) (after _ _ _ (c .before .before .before .then-buffer .ensures) (c .before .before .before .before .front-of .ensures))))
+returns c =
+    let a = c .before .before .before .args in
+    rest-passes (a .n) (a .m) (a .lx) (a .lp) (a .lh) (a .lz) (fromR (a .n) (a .m) (a .lr) (a .ly) (a .ls) (a .lk) (a .li) (a .lhp) (a .lpht) (a .lkhp)) _ _ (c .before .before .front-of .ensures) (c .before .all-fit .ensures) (c .if1 .taken)
+
+returns-2 : tie.Need-returns-2
+returns-2 c =
+    let a = c .before .before .before .before .args in
+    c .rest-of .ensures
+    ∙ ap (λ (v : Answer). afterTests v (bufferTests 3 (lent (a .m) (a .lz) ∷ fromR (a .n) (a .m) (a .lr) (a .ly) (a .ls) (a .lk) (a .li) (a .lhp) (a .lpht) (a .lkhp)))) (c .before .before .before .front-of .ensures)
 
 pub correction-spec : {M : Type 1} → statement M
-correction-spec = tie.close (tie.spec front-of-requires then-buffer-requires then-residual-requires then-gain-requires then-products-requires returns)
+correction-spec = tie.close (tie.spec (λ c κs. search needs) all-fit-requires returns (λ c κs. search needs) returns-2)
