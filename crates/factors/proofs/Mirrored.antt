@@ -14,8 +14,8 @@ use Rattle.numbers.specs.Reciprocal.{recipOf}
 use Rattle.grids.specs.Grid.{grid, cell, Same}
 use Rattle.grids.proofs.Grids.{grid-ext, grid-self}
 use Rattle.grids.proofs.Steps.{regrid}
-use Rattle.factors.specs.Inverse.{solved, solvedBelow, mirrored, backAt, backColumn, cross, back, inverse}
-use Rattle.factors.specs.Rows.{rowAt, backRow}
+use Rattle.factors.specs.Inverse.{solved, backAt, backColumn, cross, back, inverse}
+use Rattle.factors.specs.Rows.{solvedBelow, mirrored, rowAt, backRow}
 use Rattle.factors.proofs.Upward.{plus-ext}
 use Rattle.factors.proofs.Crosses.{cross-up, cross-left, cross-off, cross-low, cross-right, cross-sym}
 use Rattle.factors.proofs.Downward.{back-same}

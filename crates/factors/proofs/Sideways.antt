@@ -11,7 +11,8 @@ use Rattle.numbers.specs.Reciprocal.{recipOf}
 use Rattle.grids.specs.Grid.{run, grid, cell}
 use Rattle.grids.proofs.Grids.{grid-cell, grid-ext, grid-self}
 use Rattle.grids.proofs.RowParts.{row-part}
-use Rattle.factors.specs.Inverse.{unitAt, solvedAt, solved, solvedBelow}
+use Rattle.factors.specs.Inverse.{unitAt, solvedAt, solved}
+use Rattle.factors.specs.Rows.{solvedBelow}
 use Rattle.factors.proofs.Upward.{plus-ext, solve-off, solve-at}
 
 module _ (f : Format) (L e : ℕ → ℕ → Float) (i : ℕ) where

@@ -30,14 +30,6 @@ unfoldable pub solved : Format → (ℕ → ℕ → Float) → (ℕ → ℕ → 
 solved f L e zero = e
 solved f L e (suc i) = solveColumn f L (solved f L e i) i
 
--- rows 0 to i − 1 of the lower triangle with those columns, each down to the diagonal, as its rows; what else e has is left
-abbrev pub solvedBelow : Format → (ℕ → ℕ → Float) → (ℕ → ℕ → Float) → ℕ → ℕ → ℕ → Float
-solvedBelow f L e i r c = cond (ltb r i && leb c r) (solved f L e i c r) (e r c)
-
--- the lower triangle, on both sides of the diagonal
-abbrev pub mirrored : (ℕ → ℕ → Float) → ℕ → ℕ → Float
-mirrored e r c = cond (leb r c) (e c r) (e r c)
-
 -- ---- the second pass, from the last column back
 
 -- entries (j, i) and (i, j), from what the first pass left there: the terms run over the columns after i

@@ -1,9 +1,23 @@
--- What the second pass of the inverse makes of a row where columns are kept as rows too: entry (j, k) of the definition is read as (k, j), so that neighbours lie side by side.
--- The contracts of the functions below the public one. Definitions only.
+-- The two passes of the inverse in the lower triangle, a row at a time: what the definition has at (j, i) stands at (i, j), so that neighbours lie side by side.
+-- For the contracts of the functions below the public one. Definitions only.
+use mathlib.Core.Bool.{cond, _&&_}
 use Prim.Native.Nat.{ℕ, _+_, _-_}
+use lib.Dec.{leb, ltb}
 use lib.Ieee.{Float, Format, mul, neg}
 use Rattle.numbers.specs.Reciprocal.{recipOf}
-use Rattle.factors.specs.Inverse.{plusSum, cross}
+use Rattle.factors.specs.Inverse.{plusSum, solved, cross}
+
+-- ---- the first pass
+
+-- rows 0 to i − 1 down to the diagonal, each as the column that the pass has there; what else e has is left
+abbrev pub solvedBelow : Format → (ℕ → ℕ → Float) → (ℕ → ℕ → Float) → ℕ → ℕ → ℕ → Float
+solvedBelow f L e i r c = cond (ltb r i && leb c r) (solved f L e i c r) (e r c)
+
+-- ---- the second
+
+-- what it begins from: the lower triangle, on both sides of the diagonal
+abbrev pub mirrored : (ℕ → ℕ → Float) → ℕ → ℕ → Float
+mirrored e r c = cond (leb r c) (e c r) (e r c)
 
 -- entry (i, j) plus the sum of the terms of the rows after i
 abbrev pub rowSum : Format → ℕ → (ℕ → ℕ → Float) → (ℕ → ℕ → Float) → ℕ → ℕ → Float

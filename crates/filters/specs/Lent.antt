@@ -1,8 +1,6 @@
 -- The buffers that a correction lends, in the order of R5, and the answers of its calls to refusals 1 and 2. Definitions only.
-use mathlib.Core.Bool.{Bool, _&&_}
 use mathlib.Core.List.{List, [], _∷_, _++_}
 use Prim.Native.Nat.{ℕ, _*_, _≤_}
-use lib.Dec.{leb}
 use lib.ListN.{length}
 use lib.Ieee.{Float}
 use Rattle.answers.specs.declared.Answer.{Answer}
@@ -37,11 +35,6 @@ front n m x P H = lent n x ∷ lent (n * n) P ∷ lent (m * n) H ∷ []
 abbrev pub fromR : ℕ → ℕ → ℕ → ℕ → ℕ → ℕ → ℕ → ℕ → ℕ → ℕ → List Lent
 fromR n m R y S K S-inv HP PHt KHP =
     lent (m * m) R ∷ lent m y ∷ lent (m * m) S ∷ lent (n * m) K ∷ lent (m * m) S-inv ∷ lent (m * n) HP ∷ lent (n * m) PHt ∷ lent (n * n) KHP ∷ []
-
--- whether each of these buffers holds its matrix, where it was so far
-abbrev pub allFit : Bool → List Lent → Bool
-allFit so [] = so
-allFit so (b ∷ bs) = allFit (so && leb (b .cells) (b .len)) bs
 
 -- those of a call with the buffers b
 abbrev pub frontOf : ℕ → ℕ → Buffers → List Lent

@@ -6,7 +6,7 @@ ghost use Prim.Native.Nat.{_+_, _*_, _<_, _≤_};
 ghost use lib.ListN.{length};
 ghost use lib.Ieee.{binary32};
 ghost use Rattle.grids.specs.Grid.{run, grid, cell};
-ghost use Rattle.factors.specs.Inverse.{solvedBelow};
+ghost use Rattle.factors.specs.Rows.{solvedBelow};
 ghost use Rattle.first_pass.specs.Below.{solvedCell};
 
 mod sums;

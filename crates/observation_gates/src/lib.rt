@@ -9,7 +9,8 @@ ghost use Prim.Native.Nat.{_+_, _*_, _≤_};
 ghost use lib.Dec.{leb};
 ghost use Rattle.answers.specs.Answers.{isDone, firstOf};
 ghost use Rattle.answers.specs.Tests.{lent, bufferTest, bufferTests, afterTests, callAnswer};
-ghost use Rattle.filters.specs.Lent.{front, fromR, allFit, innovationAnswer};
+ghost use Rattle.filters.specs.Lent.{front, fromR, innovationAnswer};
+ghost use Rattle.observation_gates.specs.Fits.{allFit};
 use answers::Answer;
 
 // The answer for x, H, z and y, of which each length is given.

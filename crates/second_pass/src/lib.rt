@@ -6,7 +6,8 @@ ghost use Prim.Native.Nat.{_*_, _≤_};
 ghost use lib.ListN.{length};
 ghost use lib.Ieee.{binary32};
 ghost use Rattle.grids.specs.Grid.{grid, cell};
-ghost use Rattle.factors.specs.Inverse.{mirrored, back};
+ghost use Rattle.factors.specs.Inverse.{back};
+ghost use Rattle.factors.specs.Rows.{mirrored};
 
 mod fours;
 mod ones;

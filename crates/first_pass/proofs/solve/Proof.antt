@@ -8,7 +8,7 @@ use lib.ListN.{length}
 use lib.Ieee.{binary32}
 use Rattle.grids.specs.Grid.{grid, cell}
 use Rattle.grids.proofs.Grids.{row-in}
-use Rattle.factors.specs.Inverse.{solvedBelow}
+use Rattle.factors.specs.Rows.{solvedBelow}
 use Rattle.factors.proofs.Sideways.{side-start, side-more}
 use Rattle.first_pass.proofs.solve.Statement.{statement}
 use Rattle.first_pass.proofs.solve.Tie as tie

@@ -5,7 +5,7 @@ use borrow.Author.Needs.{needs}
 use Rattle.answers.specs.declared.Answer.{Answer}
 use Rattle.answers.specs.Tests.{lent, bufferTests, afterTests}
 use Rattle.filters.specs.Lent.{fromR}
-use Rattle.filters.proofs.CorrectionFits.{rest-passes, sizes-few}
+use Rattle.observation_gates.proofs.Fits.{rest-passes, sizes-few}
 use Rattle.observation_gates.proofs.correction.Statement.{statement}
 use Rattle.observation_gates.proofs.correction.Tie as tie
 

@@ -2,7 +2,7 @@
 use native.Mathlib.Omega.{arith}
 use borrow.Author.Needs.{needs}
 use Rattle.answers.proofs.Shorter.{few}
-use Rattle.filters.proofs.CorrectionFits.{too}
+use Rattle.observation_gates.proofs.Fits.{too}
 use Rattle.observation_gates.proofs.rest_fits.Statement.{statement}
 use Rattle.observation_gates.proofs.rest_fits.Tie as tie
 

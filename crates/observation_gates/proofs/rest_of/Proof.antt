@@ -1,6 +1,6 @@
 -- `rest_of` meets its contract: its nine tests one after the other. Assumes nothing.
 use borrow.Author.Needs.{needs}
-use Rattle.filters.proofs.CorrectionFits.{after-two, after-three}
+use Rattle.observation_gates.proofs.Fits.{after-two, after-three}
 use Rattle.observation_gates.proofs.rest_of.Statement.{statement}
 use Rattle.observation_gates.proofs.rest_of.Tie as tie
 

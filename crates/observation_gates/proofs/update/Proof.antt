@@ -1,6 +1,6 @@
 -- `update` meets its contract: the tests from R on after those before it. Assumes nothing.
 use borrow.Author.Needs.{needs}
-use Rattle.filters.proofs.CorrectionFits.{after-two, after-three}
+use Rattle.observation_gates.proofs.Fits.{after-two, after-three}
 use Rattle.observation_gates.proofs.update.Statement.{statement}
 use Rattle.observation_gates.proofs.update.Tie as tie
 

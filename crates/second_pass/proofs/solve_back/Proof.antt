@@ -7,7 +7,8 @@ use lib.ListN.{length}
 use lib.Ieee.{binary32}
 use Rattle.grids.specs.Grid.{grid, cell}
 use Rattle.grids.proofs.Grids.{row-in}
-use Rattle.factors.specs.Inverse.{mirrored, back}
+use Rattle.factors.specs.Inverse.{back}
+use Rattle.factors.specs.Rows.{mirrored}
 use Rattle.factors.proofs.Mirrored.{downTo, none-back, row-back, all-back}
 use Rattle.second_pass.proofs.solve_back.Statement.{statement}
 use Rattle.second_pass.proofs.solve_back.Tie as tie

@@ -1,0 +1,2 @@
+-- Laws of the gates: tests after others, and buffers that all fit.
+pub mod Fits

@@ -1,0 +1,2 @@
+-- The definition that the contracts cite: whether buffers fit, all at once.
+pub mod Fits
