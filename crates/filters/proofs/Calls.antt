@@ -65,22 +65,20 @@ module _ (f : Format) (n m : ℕ) (b e : Buffers) where
         inverse-lower f m (cell m (e .S)) (factorOf f n m H P R) (λ i j h k. written m m (factorOf f n m H P R) (b .S) (e .S) S-fits s i j k (omega arith)) I I r c hr hc
 
     -- every pivot is taken, and v says whether the new x and P are finite
-    pub pivots-taken : (i : ℕ) (v : Answer) → m ≤ i → i ≡ pivotOf f n m H P R
-        → e .S-inv ≡ grid m m (inverse f m (cell m (e .S)) I) (b .S-inv)
+    pub gain-taken : (i : ℕ) (v : Answer) → m ≤ i → i ≡ pivotOf f n m H P R
+        → e .S-inv ≡ grid m m (inverseOf f n m H P R I) (b .S-inv)
         → e .PHt ≡ grid n m (PHtOf f n H P) (b .PHt)
-        → e .K ≡ grid n m (times f m (PHtOf f n H P) (inverse f m (cell m (e .S)) I)) (b .K)
+        → e .K ≡ grid n m (gainOf f n m H P R I) (b .K)
         → v ≡ finiteAnswer n (newX f m (cell m (e .K)) (numbers (b .x)) (numbers (b .y))) (λ r c. sub f (P r c) (times f m (cell m (e .K)) (cell n (e .HP)) r c))
         → e .x ≡ settled v (run 0 n (newX f m (cell m (e .K)) (numbers (b .x)) (numbers (b .y))) (b .x)) (b .x)
         → e .KHP ≡ grid n n (times f m (cell m (e .K)) (cell n (e .HP))) (b .KHP)
         → e .P ≡ settled v (grid n n (λ r c. sub f (P r c) (times f m (cell m (e .K)) (cell n (e .HP)) r c)) (b .P)) (b .P)
         → Renewed f n m Done v b e
-    pivots-taken i v h q vi vt vk vv vx vh vp =
+    gain-taken i v h q vi vt vk vv vx vh vp =
         let none : pivotAnswer i m ≡ Done = simp (le-ltb i m h) in
         let told : pivotsAnswer f n m b ≡ Done = ap (λ (k : ℕ). pivotAnswer k m) (sym q) ∙ none in
         let G = gainOf f n m H P R I in
-        let gain : e .K ≡ grid n m G (b .K) =
-        vk ∙ grid-ext n m _ _ (b .K) (times-alike f n m m (PHtOf f n H P) (PHtOf f n H P) (inverse f m (cell m (e .S)) I) (inverseOf f n m H P R I) (λ r c hr hc. refl) inverse-same) in
-        let K-same : SameEntries n m (cell m (e .K)) G = written n m G (b .K) (e .K) K-fits gain in
+        let K-same : SameEntries n m (cell m (e .K)) G = written n m G (b .K) (e .K) K-fits vk in
         let KHP-same : SameEntries n n (times f m (cell m (e .K)) (cell n (e .HP))) (KHPOf f n m G H P) =
         times-alike f n m n (cell m (e .K)) G (cell n (e .HP)) (HPOf f n H P) K-same (written m n (HPOf f n H P) (b .HP) (e .HP) HP-fits hp) in
         let x-same : (r : ℕ) → r < n → newX f m (cell m (e .K)) (numbers (b .x)) (numbers (b .y)) r ≡ nextX f n m b r =
@@ -91,13 +89,29 @@ module _ (f : Format) (n m : ℕ) (b e : Buffers) where
           answer = rw told (vv ∙ finite-alike n _ _ _ _ x-same P-same);
           HP-after = hp;
           S-after = s;
-          S-inv-after = rw told (vi ∙ grid-ext m m _ _ (b .S-inv) inverse-same);
+          S-inv-after = rw told vi;
           PHt-after = rw told vt;
-          K-after = rw told gain;
+          K-after = rw told vk;
           x-after = vx ∙ ap (λ (l : List Float). settled v l (b .x)) (run-ext 0 n _ _ (b .x) x-same);
           KHP-after = rw told (vh ∙ grid-ext n n _ _ (b .KHP) KHP-same);
           P-after = vp ∙ ap (λ (l : List Float). settled v l (b .P)) (grid-ext n n _ _ (b .P) P-same);
         }
+
+    -- the same, where the inverse and the gain are told by what S holds
+    pub pivots-taken : (i : ℕ) (v : Answer) → m ≤ i → i ≡ pivotOf f n m H P R
+        → e .S-inv ≡ grid m m (inverse f m (cell m (e .S)) I) (b .S-inv)
+        → e .PHt ≡ grid n m (PHtOf f n H P) (b .PHt)
+        → e .K ≡ grid n m (times f m (PHtOf f n H P) (inverse f m (cell m (e .S)) I)) (b .K)
+        → v ≡ finiteAnswer n (newX f m (cell m (e .K)) (numbers (b .x)) (numbers (b .y))) (λ r c. sub f (P r c) (times f m (cell m (e .K)) (cell n (e .HP)) r c))
+        → e .x ≡ settled v (run 0 n (newX f m (cell m (e .K)) (numbers (b .x)) (numbers (b .y))) (b .x)) (b .x)
+        → e .KHP ≡ grid n n (times f m (cell m (e .K)) (cell n (e .HP))) (b .KHP)
+        → e .P ≡ settled v (grid n n (λ r c. sub f (P r c) (times f m (cell m (e .K)) (cell n (e .HP)) r c)) (b .P)) (b .P)
+        → Renewed f n m Done v b e
+    pivots-taken i v h q vi vt vk =
+        gain-taken i v h q
+        (vi ∙ grid-ext m m _ _ (b .S-inv) inverse-same)
+        vt
+        (vk ∙ grid-ext n m _ _ (b .K) (times-alike f n m m (PHtOf f n H P) (PHtOf f n H P) (inverse f m (cell m (e .S)) I) (inverseOf f n m H P R I) (λ r c hr hc. refl) inverse-same))
 
 -- what the update leaves does not go by z, nor by the y afterwards
 retold : (f : Format) (n m : ℕ) (g v : Answer) (b e : Buffers) (z z' y' : List Float) → Renewed f n m g v b e → Renewed f n m g v (withZ b z) (withZ (withY e y') z')

@@ -86,7 +86,7 @@ pub fn correct_cells(
         );
     }
     updates::innovate_cells(n, m, x, &*h, &*z, y);
-    corrections::update_cells(
+    reading_updates::update_cells(
         n,
         m,
         x,

@@ -50,7 +50,7 @@ pub fn three_totals(
 }
 
 // The first cols of the three, in cells of c from at upward.
-fn put_some(c: &mut [f32], at: usize, cols: usize, t: Three)
+pub fn put_some(c: &mut [f32], at: usize, cols: usize, t: Three)
     requires { ⌜ (1 ≤ cols) × (cols ≤ 3) × (at + cols ≤ length (now c)) ⌝ }
     ensures { λ _. ⌜ now (c .exit) ≡ run at cols (numberAt t) (now (c .entry)) ⌝ }
 {

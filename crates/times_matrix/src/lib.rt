@@ -10,6 +10,7 @@ ghost use Rattle.entries.specs.Entries.{product};
 
 mod wide;
 
+pub use wide::four_columns;
 pub use wide::wide_cells;
 
 // The matrix, into c: a of rows by inner and b of inner by cols.

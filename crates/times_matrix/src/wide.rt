@@ -41,7 +41,7 @@ fn row_of_three(inner: usize, cols: usize, a: &[f32], b: &[f32], r: usize, c: &m
 }
 
 // The matrix of four columns, into c, row after row.
-fn rows_of_one(rows: usize, inner: usize, cols: usize, a: &[f32], b: &[f32], c: &mut [f32])
+pub fn four_columns(rows: usize, inner: usize, cols: usize, a: &[f32], b: &[f32], c: &mut [f32])
     requires { ⌜ (4 ≤ cols) × (cols ≤ 4) × (rows * inner ≤ length (now a)) × (inner * cols ≤ length (now b)) × (rows * cols ≤ length (now c)) ⌝ }
     ensures { λ _. ⌜ now (c .exit) ≡ grid rows cols (product binary32 inner cols (now (a .entry)) (now (b .entry))) (now (c .entry)) ⌝ }
 {
@@ -97,7 +97,7 @@ pub fn wide_cells(rows: usize, inner: usize, cols: usize, a: &[f32], b: &[f32], 
     ensures { λ _. ⌜ now (c .exit) ≡ grid rows cols (product binary32 inner cols (now (a .entry)) (now (b .entry))) (now (c .entry)) ⌝ }
 {
     if cols == 4 {
-        rows_of_one(rows, inner, cols, &*a, &*b, c);
+        four_columns(rows, inner, cols, &*a, &*b, c);
     } else if cols <= 8 {
         two_chunks_wide(rows, inner, cols, &*a, &*b, c);
     } else if cols <= 12 {

@@ -42,7 +42,7 @@ fn four_from_first(inner: usize, a: &[f32], x: &[f32], r: usize) -> Four
 }
 
 // The rows numbers, into c: four of a's rows at a time, then one by one.
-pub fn rowvector_cells(rows: usize, inner: usize, a: &[f32], x: &[f32], c: &mut [f32])
+fn each_row(rows: usize, inner: usize, a: &[f32], x: &[f32], c: &mut [f32])
     requires { ⌜ (1 ≤ inner) × (rows * inner ≤ length (now a)) × (inner ≤ length (now x)) × (rows ≤ length (now c)) ⌝ }
     ensures { λ _. ⌜ now (c .exit) ≡ run 0 rows (rowProduct binary32 inner (now (a .entry)) (now (x .entry))) (now (c .entry)) ⌝ }
 {
@@ -54,6 +54,60 @@ pub fn rowvector_cells(rows: usize, inner: usize, a: &[f32], x: &[f32], c: &mut 
     while r < rows {
         c[r] = total_from_first(inner, &*a, &*x, r);
         r += 1;
+    }
+}
+
+// The same for three products a sum, which are common: no sum needs a loop.
+fn by_three(rows: usize, a: &[f32], x: &[f32], c: &mut [f32])
+    requires { ⌜ (rows * 3 ≤ length (now a)) × (3 ≤ length (now x)) × (rows ≤ length (now c)) ⌝ }
+    ensures { λ _. ⌜ now (c .exit) ≡ run 0 rows (rowProduct binary32 3 (now (a .entry)) (now (x .entry))) (now (c .entry)) ⌝ }
+{
+    let x0 = x[0];
+    let x1 = x[1];
+    let x2 = x[2];
+    let mut r: usize = 0;
+    while r < rows {
+        let p = r * 3;
+        c[r] = a[p] * x0 + a[p + 1] * x1 + a[p + 2] * x2;
+        r += 1;
+    }
+}
+
+// And for six.
+fn by_six(rows: usize, a: &[f32], x: &[f32], c: &mut [f32])
+    requires { ⌜ (rows * 6 ≤ length (now a)) × (6 ≤ length (now x)) × (rows ≤ length (now c)) ⌝ }
+    ensures { λ _. ⌜ now (c .exit) ≡ run 0 rows (rowProduct binary32 6 (now (a .entry)) (now (x .entry))) (now (c .entry)) ⌝ }
+{
+    let x0 = x[0];
+    let x1 = x[1];
+    let x2 = x[2];
+    let x3 = x[3];
+    let x4 = x[4];
+    let x5 = x[5];
+    let mut r: usize = 0;
+    while r < rows {
+        let p = r * 6;
+        c[r] = a[p] * x0
+            + a[p + 1] * x1
+            + a[p + 2] * x2
+            + a[p + 3] * x3
+            + a[p + 4] * x4
+            + a[p + 5] * x5;
+        r += 1;
+    }
+}
+
+// The rows numbers, into c.
+pub fn rowvector_cells(rows: usize, inner: usize, a: &[f32], x: &[f32], c: &mut [f32])
+    requires { ⌜ (1 ≤ inner) × (rows * inner ≤ length (now a)) × (inner ≤ length (now x)) × (rows ≤ length (now c)) ⌝ }
+    ensures { λ _. ⌜ now (c .exit) ≡ run 0 rows (rowProduct binary32 inner (now (a .entry)) (now (x .entry))) (now (c .entry)) ⌝ }
+{
+    if inner == 3 {
+        by_three(rows, &*a, &*x, c);
+    } else if inner == 6 {
+        by_six(rows, &*a, &*x, c);
+    } else {
+        each_row(rows, inner, &*a, &*x, c);
     }
 }
 

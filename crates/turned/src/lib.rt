@@ -21,7 +21,7 @@ fn turn_column(inner: usize, cols: usize, b: &[f32], k: usize, t: &mut [f32])
 }
 
 // bᵀ, into t.
-fn turn(inner: usize, cols: usize, b: &[f32], t: &mut [f32])
+pub fn turn(inner: usize, cols: usize, b: &[f32], t: &mut [f32])
     requires { ⌜ (cols * inner ≤ length (now b)) × (inner * cols ≤ length (now t)) ⌝ }
     ensures { λ _. ⌜ now (t .exit) ≡ grid inner cols (λ k j. cell inner (now (b .entry)) j k) (now (t .entry)) ⌝ }
 {

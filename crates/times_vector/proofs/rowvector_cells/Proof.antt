@@ -1,74 +1,49 @@
--- `rowvector_cells` meets its contract: a loop that writes four cells a turn, and one that goes on cell by cell. Assumes nothing.
-use mathlib.Core.Path.{sym, _∙_}
-use Prim.Native.Nat.{_-_}
-use native.Mathlib.Nat.{zero-add}
-use native.Mathlib.Omega.{arith}
+-- `rowvector_cells` meets its contract: where inner is 3, what is said of three is said of inner, and so with 6. Assumes nothing.
+use mathlib.Core.Path.{_≡_, sym, subst}
+use Prim.Native.Nat.{ℕ, _*_, _≤_}
+use borrow.Author.Needs.{needs}
+use denote.Ref.{now}
+use lib.ListN.{length}
 use lib.Ieee.{binary32}
-use Rattle.grids.proofs.Grids.{row-in}
-use Rattle.grids.proofs.Loops.{Writing, begun}
+use Rattle.grids.specs.Grid.{run}
 use Rattle.entries.specs.Entries.{rowProduct}
-use Rattle.grids.proofs.Turns.{Onward, four-more, onward, one-onward, all-onward}
-use Rattle.entries.proofs.Places.{rows-in}
 use Rattle.times_vector.proofs.rowvector_cells.Statement.{statement}
 use Rattle.times_vector.proofs.rowvector_cells.Tie as tie
 
-abbrev Inv-loop : tie.InvT-loop
-Inv-loop rows inner a x c₀ r₀ c r = Writing 0 rows (rowProduct binary32 inner a x) c₀ c r
+by-three-requires : tie.Need-by-three-requires
+by-three-requires c κs =
+    let s = c .before .before .before .before .before in
+    let m = s .args in
+    subst (λ (k : ℕ). (m .rows * k ≤ length (now (m .a))) × (k ≤ length (now (m .x))) × (m .rows ≤ length (now (m .c)))) (c .before .if1 .taken) (s .pre .1, s .pre .2, s .pre .3)
 
-abbrev μ-loop : tie.MeasureT-loop
-μ-loop rows inner a x c₀ r₀ c r = rows - r
+by-six-requires : tie.Need-by-six-requires
+by-six-requires c κs =
+    let s = c .before .before .before .before .before .before in
+    let m = s .args in
+    subst (λ (k : ℕ). (m .rows * k ≤ length (now (m .a))) × (k ≤ length (now (m .x))) × (m .rows ≤ length (now (m .c)))) (c .before .if2 .taken) (s .pre .1, s .pre .2, s .pre .3)
 
-abbrev Inv-loop2 : tie.InvT-loop2
-Inv-loop2 rows inner a x c₀ r₀ c r = Onward 0 rows (λ z. (rowProduct binary32 inner a x)) c₀ r₀ c r
+returns : tie.Need-returns
+returns c =
+    let m = c .before .before .before .before .before .before .before .before .args in
+    let v = c .before .before .by-three in
+    subst (λ (k : ℕ). v .last .1 .1 .1 .0 ≡ run 0 (m .rows) (rowProduct binary32 k (now (m .a)) (now (m .x))) (now (m .c))) (sym (c .before .before .before .before .if1 .taken)) (v .ensures)
 
-abbrev μ-loop2 : tie.MeasureT-loop2
-μ-loop2 rows inner a x c₀ r₀ c r = rows - r
-
-four-from-first-requires : tie.Need-four-from-first-requires Inv-loop μ-loop Inv-loop2 μ-loop2
-four-from-first-requires c κs =
-    let m = c .before .before .before .before .before .before .args in
-    omega (arith, rows-in (m .rows) (m .inner) (c .before .before .loop .r) (c .before .loop-test .taken))
-
-loop-again : tie.Need-loop-again Inv-loop μ-loop Inv-loop2 μ-loop2
-loop-again c =
-    let t = c .before .before .before .four-from-first .ensures in
-    four-more (c .before .before .before .before .before .before .loop .inv) (c .before .before .before .before .before .loop-test .taken) (sym (zero-add _)) t (c .before .before .put .ensures)
-
-total-from-first-requires : tie.Need-total-from-first-requires Inv-loop μ-loop Inv-loop2 μ-loop2
-total-from-first-requires c κs =
-    let m = c .before .before .before .before .before .before .before .args in
-    omega (arith, row-in (m .rows) (m .inner) (c .before .loop2 .r) (c .loop2-test .taken))
-
-loop2-again : tie.Need-loop2-again Inv-loop μ-loop Inv-loop2 μ-loop2
-loop2-again c = one-onward (c .before .before .loop2 .inv) (c .before .loop2-test .taken) (sym (zero-add _)) (λ z w. c .total-from-first .ensures)
-
-same-length : tie.Need-same-length Inv-loop μ-loop Inv-loop2 μ-loop2
-same-length c = c .before .loop2 .inv .size ∙ c .before .before .before .loop .inv .size
-
-returns : tie.Need-returns Inv-loop μ-loop Inv-loop2 μ-loop2
-returns c = all-onward (c .before .before .before .loop .inv) (c .before .loop2 .inv) (c .loop2-test .left)
+returns-2 : tie.Need-returns-2
+returns-2 c =
+    let m = c .before .before .before .before .before .before .before .before .before .args in
+    let v = c .before .before .by-six in
+    subst (λ (k : ℕ). v .last .1 .1 .1 .0 ≡ run 0 (m .rows) (rowProduct binary32 k (now (m .a)) (now (m .x))) (now (m .c))) (sym (c .before .before .before .before .if2 .taken)) (v .ensures)
 
 pub rowvector-cells-spec : {M : Type 1} → statement M
 rowvector-cells-spec =
     tie.close
     (tie.spec
-    Inv-loop
-    μ-loop
-    Inv-loop2
-    μ-loop2
-    (λ c. begun)
-    (λ c. omega arith)
-    four-from-first-requires
-    (λ c κs. omega arith)
-    (λ c. omega arith)
-    (λ c. omega arith)
-    loop-again
-    (λ c. onward (c .before .loop .inv .within))
-    total-from-first-requires
-    (λ c. omega arith)
-    (λ c. omega arith)
-    (λ c. omega arith)
-    (λ c. omega arith)
-    loop2-again
-    same-length
-    returns)
+    by-three-requires
+    by-six-requires
+    (λ c κs. search needs)
+    (λ c. search needs)
+    returns
+    (λ c. search needs)
+    returns-2
+    (λ c. search needs)
+    (λ c. search needs))

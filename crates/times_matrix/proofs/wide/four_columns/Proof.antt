@@ -1,4 +1,4 @@
--- `wide::rows_of_one` meets its contract: a loop that writes row after row. Assumes nothing.
+-- `wide::four_columns` meets its contract: a loop that writes row after row. Assumes nothing.
 use mathlib.Core.Path.{refl}
 use Prim.Native.Nat.{_-_, _*_}
 use native.Mathlib.Omega.{arith}
@@ -6,8 +6,8 @@ use lib.Ieee.{binary32}
 use Rattle.grids.proofs.Grids.{row-in}
 use Rattle.entries.specs.Entries.{product}
 use Rattle.grids.proofs.Turns.{Rows, no-rows, row-more, all-rows}
-use Rattle.times_matrix.proofs.wide.rows_of_one.Statement.{statement}
-use Rattle.times_matrix.proofs.wide.rows_of_one.Tie as tie
+use Rattle.times_matrix.proofs.wide.four_columns.Statement.{statement}
+use Rattle.times_matrix.proofs.wide.four_columns.Tie as tie
 
 abbrev Inv-loop : tie.InvT-loop
 Inv-loop rows inner cols a b c₀ r₀ c r = Rows rows cols (product binary32 inner cols a b) c₀ c r
@@ -22,8 +22,8 @@ row-of-one-requires c κs =
     let in-turn = c .before .loop-test .taken in
     omega (arith, row-in (m .rows) (m .inner) (top .loop .r) in-turn, row-in (m .rows) (m .cols) (top .loop .r) in-turn)
 
-pub rows-of-one-spec : {M : Type 1} → statement M
-rows-of-one-spec =
+pub four-columns-spec : {M : Type 1} → statement M
+four-columns-spec =
     tie.close
     (tie.spec
     Inv-loop
