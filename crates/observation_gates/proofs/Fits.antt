@@ -3,8 +3,8 @@ use mathlib.Core.Path.{_≡_, refl, sym, ap, _∙_}
 use mathlib.Core.Bool.{Bool, true, false, _&&_, true≢false}
 use mathlib.Core.List.{List, [], _∷_, _++_}
 use Prim.Native.Nat.{ℕ, _≤_}
-use borrow.Author.Tests.{leb-true, le-ltb}
-use lib.Dec.{leb}
+use borrow.Author.Tests.{eqb-true, leb-true, le-ltb}
+use lib.Dec.{eqb, leb}
 use Rattle.answers.specs.declared.Answer.{Answer}
 use Rattle.answers.specs.declared.Answer.the-variants.{Done}
 use Rattle.answers.specs.Answers.{isDone, firstOf}
@@ -54,3 +54,12 @@ rest-passes n m lx lp lh lz rest h w q e t =
 -- So sizes that pass are at most 16.
 pub sizes-few : (n m lx lp lh : ℕ) (h : Answer) → h ≡ callAnswer (n ∷ m ∷ []) (front n m lx lp lh) [] → isDone h ≡ true → (n ≤ 16) × (m ≤ 16)
 sizes-few n m lx lp lh h q e = let s = fit (n ∷ m ∷ []) (front n m lx lp lh) [] (ap isDone (sym q) ∙ e) .0 in (s .1, s .2 .1)
+
+-- Where there are one state and one observation and all twelve buffers fit, the answer is done: w says all of it.
+pub ones-pass :
+    (n m lx lp lh lz : ℕ) (rest : List Lent) (w : Bool) → w ≡ allFit (eqb n 1 && eqb m 1) (front 1 1 lx lp lh ++ lent 1 lz ∷ rest) → w ≡ true
+    → (n ≡ 1) × (m ≡ 1) × (isDone (callAnswer (1 ∷ 1 ∷ []) (front 1 1 lx lp lh ++ lent 1 lz ∷ rest) []) ≡ true)
+ones-pass n m lx lp lh lz rest w e t =
+    let h = fit-all (eqb n 1 && eqb m 1) (front 1 1 lx lp lh ++ lent 1 lz ∷ rest) (sym e ∙ t) in
+    let s = both (eqb n 1) (eqb m 1) (h .0) in
+    (eqb-true n 1 (s .0), eqb-true m 1 (s .1), passes (1 ∷ 1 ∷ []) (front 1 1 lx lp lh ++ lent 1 lz ∷ rest) [] (refl, (refl, tt)) (h .1) tt)

@@ -6,7 +6,7 @@ ghost use mathlib.Core.Path.{_≡_};
 ghost use mathlib.Core.Bool.{true, _&&_};
 ghost use mathlib.Core.List.{[], _∷_, _++_};
 ghost use Prim.Native.Nat.{_+_, _*_, _≤_};
-ghost use lib.Dec.{leb};
+ghost use lib.Dec.{eqb, leb};
 ghost use Rattle.answers.specs.Answers.{isDone, firstOf};
 ghost use Rattle.answers.specs.Tests.{lent, bufferTest, bufferTests, afterTests, callAnswer};
 ghost use Rattle.filters.specs.Lent.{front, fromR, innovationAnswer};
@@ -161,6 +161,48 @@ fn all_fit(
         return rest_fits(n, m, lz, lr, ly, ls, lk, li, lhp, lpht, lkhp);
     }
     false
+}
+
+// Whether there are one state and one observation.
+fn both_one(n: usize, m: usize) -> bool
+    ensures { λ v. ⌜ v ≡ eqb n 1 && eqb m 1 ⌝ }
+{
+    n == 1 && m == 1
+}
+
+// Whether there are one state and one observation, and all twelve buffers of a correction hold their
+// matrices. The compiler makes one jump of it.
+pub fn ones_fit(
+    n: usize,
+    m: usize,
+    lx: usize,
+    lp: usize,
+    lh: usize,
+    lz: usize,
+    lr: usize,
+    ly: usize,
+    ls: usize,
+    lk: usize,
+    li: usize,
+    lhp: usize,
+    lpht: usize,
+    lkhp: usize,
+) -> bool
+    ensures { λ v. ⌜ v ≡ allFit (eqb n 1 && eqb m 1) (front 1 1 lx lp lh ++ lent 1 lz ∷ fromR 1 1 lr ly ls lk li lhp lpht lkhp) ⌝ }
+{
+    let sizes = both_one(n, m);
+    let x = fits_too(sizes, 1, lx);
+    let p = fits_too(x, 1, lp);
+    let h = fits_too(p, 1, lh);
+    let z = fits_too(h, 1, lz);
+    let r = fits_too(z, 1, lr);
+    let y = fits_too(r, 1, ly);
+    let s = fits_too(y, 1, ls);
+    let k = fits_too(s, 1, lk);
+    let inv = fits_too(k, 1, li);
+    let hp = fits_too(inv, 1, lhp);
+    let pht = fits_too(hp, 1, lpht);
+    fits_too(pht, 1, lkhp)
 }
 
 // The answer so far, and then for z, R, y, S, K, temp_S_inv, temp_HP, temp_PHt and temp_KHP.

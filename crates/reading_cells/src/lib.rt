@@ -1,5 +1,5 @@
 // The work of a correction by a reading, for the crate above, which has tested sizes and buffers; not for
-// users: (1, 1), (2, 1) and (4, 2) in straight lines, the others step by step.
+// users: (2, 1) and (4, 2) in straight lines, the others step by step.
 ghost use mathlib.Core.Path.{_≡_};
 ghost use mathlib.Core.List.{[]};
 ghost use Prim.Native.Nat.{_≤_};
@@ -37,22 +37,6 @@ pub fn correct_cells(
         (buffers (now (x .entry)) (now (p .entry)) (now (h .entry)) [] (now (r .entry)) (now (y .exit)) (now (s .entry)) (now (k .entry)) (now («temp_s_inv» .entry)) (now («temp_hp» .entry)) (now («temp_pht» .entry)) (now («temp_khp» .entry)))
         (buffers (now (x .exit)) (now (p .exit)) (now (h .entry)) [] (now (r .entry)) (now (y .exit)) (now (s .exit)) (now (k .exit)) (now («temp_s_inv» .exit)) (now («temp_hp» .exit)) (now («temp_pht» .exit)) (now («temp_khp» .exit))) ⌝ }
 {
-    if n == 1 && m == 1 {
-        return one_by_one::correct_one(
-            x,
-            p,
-            &*h,
-            &*z,
-            &*r,
-            y,
-            s,
-            k,
-            temp_s_inv,
-            temp_hp,
-            temp_pht,
-            temp_khp,
-        );
-    }
     if n == 2 && m == 1 {
         return two_by_one::correct_two(
             x,

@@ -1,5 +1,6 @@
 // The correction by a reading, over lent buffers of n states and m observations: the innovation and
-// the update from it, behind one door. `observations` hands it on to users.
+// the update from it, behind one door. `observations` hands it on to users. One state and one observation
+// are asked first, all their buffers at once.
 ghost use lib.Ieee.{binary32};
 ghost use Rattle.filters.specs.Lent.{buffers};
 ghost use Rattle.filters.specs.Corrected.{Corrected};
@@ -30,21 +31,49 @@ pub fn correct(
         v
         (buffers (now (x .exit)) (now (p .exit)) (now (h .entry)) (now (z .entry)) (now (r .entry)) (now (y .exit)) (now (s .exit)) (now (k .exit)) (now («temp_s_inv» .exit)) (now («temp_hp» .exit)) (now («temp_pht» .exit)) (now («temp_khp» .exit))) ⌝ }
 {
+    let lx = x.len();
+    let lp = p.len();
+    let lh = h.len();
+    let lz = z.len();
+    let lr = r.len();
+    let ly = y.len();
+    let ls = s.len();
+    let lk = k.len();
+    let li = temp_s_inv.len();
+    let lhp = temp_hp.len();
+    let lpht = temp_pht.len();
+    let lkhp = temp_khp.len();
+    if observation_gates::ones_fit(n, m, lx, lp, lh, lz, lr, ly, ls, lk, li, lhp, lpht, lkhp) {
+        return one_by_one::correct_one(
+            x,
+            p,
+            &*h,
+            &*z,
+            &*r,
+            y,
+            s,
+            k,
+            temp_s_inv,
+            temp_hp,
+            temp_pht,
+            temp_khp,
+        );
+    }
     let v = observation_gates::correction(
         n,
         m,
-        x.len(),
-        p.len(),
-        h.len(),
-        z.len(),
-        r.len(),
-        y.len(),
-        s.len(),
-        k.len(),
-        temp_s_inv.len(),
-        temp_hp.len(),
-        temp_pht.len(),
-        temp_khp.len(),
+        lx,
+        lp,
+        lh,
+        lz,
+        lr,
+        ly,
+        ls,
+        lk,
+        li,
+        lhp,
+        lpht,
+        lkhp,
     );
     if answers::is_done(v) {
         return reading_cells::correct_cells(

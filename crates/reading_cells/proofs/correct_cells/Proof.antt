@@ -1,4 +1,4 @@
--- `correct_cells` meets its contract: where (n, m) is (1, 1), (2, 1) or (4, 2), what is said of those sizes is said of n and m; elsewhere y is the innovation, and the update reads it there. Assumes nothing.
+-- `correct_cells` meets its contract: where (n, m) is (2, 1) or (4, 2), what is said of those sizes is said of n and m; elsewhere y is the innovation, and the update reads it there. Assumes nothing.
 use mathlib.Core.Path.{_≡_, sym, subst}
 use mathlib.Core.List.{[]}
 use Prim.Native.Nat.{ℕ, _≤_}
@@ -29,11 +29,8 @@ start1 c = begun (c .before .before)
 abbrev start2 : tie.Then4 → tie.Start
 start2 c = begun (c .before .before .before)
 
-abbrev start3 : tie.Then6 → tie.Start
-start3 c = begun (c .before .before .before .before)
-
-abbrev start4 : tie.Joined5 → tie.Start
-start4 c = begun (c .before .before .before)
+abbrev start3 : tie.Joined3 → tie.Start
+start3 c = begun (c .before .before)
 
 -- ---- k states and l observations in the place of n and m
 
@@ -60,21 +57,15 @@ Left s v e k l =
 left : (s : tie.Start) (k l : ℕ) {v : Answer} {e : Buffers} → s .args .n ≡ k → s .args .m ≡ l → Left s v e k l → Left s v e (s .args .n) (s .args .m)
 left s k l {v} {e} p q h = subst (Left s v e (s .args .n)) (sym q) (subst (λ (i : ℕ). Left s v e i l) (sym p) h)
 
-abbrev end1 : tie.After-correct-one → Buffers
+abbrev end1 : tie.After-correct-two → Buffers
 end1 d =
     let a = start1 (d .before .before .before .before .before .before .before .before .before .before) .args in
-    let l = d .correct-one .last in
-    buffers (l .0) (l .1 .0) (now (a .h)) [] (now (a .r)) (l .1 .1 .1 .1 .1 .0) (l .1 .1 .1 .1 .1 .1 .0) (l .1 .1 .1 .1 .1 .1 .1 .0) (l .1 .1 .1 .1 .1 .1 .1 .1 .0) (l .1 .1 .1 .1 .1 .1 .1 .1 .1 .0) (l .1 .1 .1 .1 .1 .1 .1 .1 .1 .1 .0) (l .1 .1 .1 .1 .1 .1 .1 .1 .1 .1 .1 .0)
-
-abbrev end2 : tie.After-correct-two → Buffers
-end2 d =
-    let a = start2 (d .before .before .before .before .before .before .before .before .before .before) .args in
     let l = d .correct-two .last in
     buffers (l .0) (l .1 .0) (now (a .h)) [] (now (a .r)) (l .1 .1 .1 .1 .1 .0) (l .1 .1 .1 .1 .1 .1 .0) (l .1 .1 .1 .1 .1 .1 .1 .0) (l .1 .1 .1 .1 .1 .1 .1 .1 .0) (l .1 .1 .1 .1 .1 .1 .1 .1 .1 .0) (l .1 .1 .1 .1 .1 .1 .1 .1 .1 .1 .0) (l .1 .1 .1 .1 .1 .1 .1 .1 .1 .1 .1 .0)
 
-abbrev end3 : tie.After-correct-four → Buffers
-end3 d =
-    let a = start3 (d .before .before .before .before .before .before .before .before .before .before) .args in
+abbrev end2 : tie.After-correct-four → Buffers
+end2 d =
+    let a = start2 (d .before .before .before .before .before .before .before .before .before .before) .args in
     let l = d .correct-four .last in
     buffers (l .0) (l .1 .0) (now (a .h)) [] (now (a .r)) (l .1 .1 .1 .1 .1 .0) (l .1 .1 .1 .1 .1 .1 .0) (l .1 .1 .1 .1 .1 .1 .1 .0) (l .1 .1 .1 .1 .1 .1 .1 .1 .0) (l .1 .1 .1 .1 .1 .1 .1 .1 .1 .0) (l .1 .1 .1 .1 .1 .1 .1 .1 .1 .1 .0) (l .1 .1 .1 .1 .1 .1 .1 .1 .1 .1 .1 .0)
 
@@ -82,7 +73,7 @@ pub correct-cells-spec : {M : Type 1} → statement M
 correct-cells-spec =
     tie.close
     (tie.spec
-    (λ c κs. let t = c .before .before .before .before .before .before .before .before .before in fits (start1 t) 1 1 (t .before .if1 .taken) (eqb-true _ _ (t .if2 .taken)))
+    (λ c κs. let t = c .before .before .before .before .before .before .before .before .before in fits (start1 t) 2 1 (t .before .if1 .taken) (eqb-true _ _ (t .if2 .taken)))
     (λ c. c .before .before .before .before .before .before .before .before .before .before .before .before .before .before .before .before .before .x .given)
     (λ c. c .before .before .before .before .before .before .before .before .before .before .before .before .before .before .before .p .given)
     (λ c. c .before .before .before .before .before .before .before .before .before .before .before .before .before .y .given)
@@ -92,8 +83,8 @@ correct-cells-spec =
     (λ c. c .before .before .before .before .before .temp-hp .given)
     (λ c. c .before .before .before .temp-pht .given)
     (λ c. c .before .temp-khp .given)
-    (λ c. let d = c .before .before .before .before .before .before .before .before .before .before .before .before .before .before .before .before .before .before in let t = d .before .before .before .before .before .before .before .before .before .before in left (start1 t) 1 1 {e = end1 d} (t .before .if1 .taken) (eqb-true _ _ (t .if2 .taken)) (d .correct-one .ensures))
-    (λ c κs. let t = c .before .before .before .before .before .before .before .before .before in fits (start2 t) 2 1 (t .before .if3 .taken) (eqb-true _ _ (t .if4 .taken)))
+    (λ c. let d = c .before .before .before .before .before .before .before .before .before .before .before .before .before .before .before .before .before .before in let t = d .before .before .before .before .before .before .before .before .before .before in left (start1 t) 2 1 {e = end1 d} (t .before .if1 .taken) (eqb-true _ _ (t .if2 .taken)) (d .correct-two .ensures))
+    (λ c κs. let t = c .before .before .before .before .before .before .before .before .before in fits (start2 t) 4 2 (t .before .if3 .taken) (eqb-true _ _ (t .if4 .taken)))
     (λ c. c .before .before .before .before .before .before .before .before .before .before .before .before .before .before .before .before .before .x2 .given)
     (λ c. c .before .before .before .before .before .before .before .before .before .before .before .before .before .before .before .p2 .given)
     (λ c. c .before .before .before .before .before .before .before .before .before .before .before .before .before .y2 .given)
@@ -103,27 +94,16 @@ correct-cells-spec =
     (λ c. c .before .before .before .before .before .temp-hp2 .given)
     (λ c. c .before .before .before .temp-pht2 .given)
     (λ c. c .before .temp-khp2 .given)
-    (λ c. let d = c .before .before .before .before .before .before .before .before .before .before .before .before .before .before .before .before .before .before in let t = d .before .before .before .before .before .before .before .before .before .before in left (start2 t) 2 1 {e = end2 d} (t .before .if3 .taken) (eqb-true _ _ (t .if4 .taken)) (d .correct-two .ensures))
-    (λ c κs. let t = c .before .before .before .before .before .before .before .before .before in fits (start3 t) 4 2 (t .before .if5 .taken) (eqb-true _ _ (t .if6 .taken)))
-    (λ c. c .before .before .before .before .before .before .before .before .before .before .before .before .before .before .before .before .before .x3 .given)
-    (λ c. c .before .before .before .before .before .before .before .before .before .before .before .before .before .before .before .p3 .given)
-    (λ c. c .before .before .before .before .before .before .before .before .before .before .before .before .before .y3 .given)
+    (λ c. let d = c .before .before .before .before .before .before .before .before .before .before .before .before .before .before .before .before .before .before in let t = d .before .before .before .before .before .before .before .before .before .before in left (start2 t) 4 2 {e = end2 d} (t .before .if3 .taken) (eqb-true _ _ (t .if4 .taken)) (d .correct-four .ensures))
+    (λ c κs. let s = start3 (c .before .before) in let h = s .pre .0 in (h .states, h .x-holds, h .H-holds, s .pre .1, h .y-holds))
+    (λ c κs. let s = start3 (c .before .before .before .before .before .before .before .before .before .before .before .before .before .before) in let h = s .pre .0 in held-with _ _ (lent s) _ [] h (omega (arith, h .y-holds)))
+    (λ c. c .before .before .before .before .before .before .before .before .before .before .before .before .before .before .before .x3 .given)
+    (λ c. c .before .before .before .before .before .before .before .before .before .before .before .before .before .p3 .given)
+    (λ c. c .before .before .before .before .before .before .before .before .before .before .before .before .before .before .before .before .before .before .before .before .before .before .before .before .before .before .before .y3 .given)
     (λ c. c .before .before .before .before .before .before .before .before .before .before .before .s3 .given)
     (λ c. c .before .before .before .before .before .before .before .before .before .k3 .given)
     (λ c. c .before .before .before .before .before .before .before .temp-s-inv3 .given)
     (λ c. c .before .before .before .before .before .temp-hp3 .given)
     (λ c. c .before .before .before .temp-pht3 .given)
     (λ c. c .before .temp-khp3 .given)
-    (λ c. let d = c .before .before .before .before .before .before .before .before .before .before .before .before .before .before .before .before .before .before in let t = d .before .before .before .before .before .before .before .before .before .before in left (start3 t) 4 2 {e = end3 d} (t .before .if5 .taken) (eqb-true _ _ (t .if6 .taken)) (d .correct-four .ensures))
-    (λ c κs. let s = start4 (c .before .before) in let h = s .pre .0 in (h .states, h .x-holds, h .H-holds, s .pre .1, h .y-holds))
-    (λ c κs. let s = start4 (c .before .before .before .before .before .before .before .before .before .before .before .before .before .before) in let h = s .pre .0 in held-with _ _ (lent s) _ [] h (omega (arith, h .y-holds)))
-    (λ c. c .before .before .before .before .before .before .before .before .before .before .before .before .before .before .before .x4 .given)
-    (λ c. c .before .before .before .before .before .before .before .before .before .before .before .before .before .p4 .given)
-    (λ c. c .before .before .before .before .before .before .before .before .before .before .before .before .before .before .before .before .before .before .before .before .before .before .before .before .before .before .before .y4 .given)
-    (λ c. c .before .before .before .before .before .before .before .before .before .before .before .s4 .given)
-    (λ c. c .before .before .before .before .before .before .before .before .before .k4 .given)
-    (λ c. c .before .before .before .before .before .before .before .temp-s-inv4 .given)
-    (λ c. c .before .before .before .before .before .temp-hp4 .given)
-    (λ c. c .before .before .before .temp-pht4 .given)
-    (λ c. c .before .temp-khp4 .given)
     (λ c. let u = c .before .before .before .before .before .before .before .before .before .before .before .before .before .before .before .before in (u .before .before .before .before .before .before .before .before .before .before .before .before .innovate-cells .ensures, u .update-cells .ensures)))
