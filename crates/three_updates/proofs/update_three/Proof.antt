@@ -51,8 +51,9 @@ same-length-6 c = search needs
 
 returns : tie.Need-returns
 returns c =
-    let g = c .before .before .before .before .before .before .before .before .before .before .before .gain-three .ensures in
-    let h = c .if1 .taken in
+    let d = c .before .before .before .before .before .before .before .before .before .before .before in
+    let g = d .gain-three .ensures in
+    let h : d .gain-three .result < 3 = c .if1 .taken in
     pivot-refused _ _ _ _ _ _ h (g .0) (g .1 .0) (g .1 .1 .0) (kept _ _ _ _ h (g .1 .1 .1 .0)) (kept _ _ _ _ h (g .1 .1 .1 .1 .0)) (kept _ _ _ _ h (g .1 .1 .1 .1 .1)) refl refl refl
 
 renew-cells-requires : tie.Need-renew-cells-requires
