@@ -1,5 +1,5 @@
 -- `update_cells` meets its contract: where m is three, what is said of three observations is said of m; elsewhere it is the update as it stands. Assumes nothing.
-use mathlib.Core.Path.{_≡_, sym, subst}
+use mathlib.Core.Path.{sym, subst}
 use mathlib.Core.List.{[]}
 use Prim.Native.Nat.{ℕ}
 use denote.Ref.{now}
