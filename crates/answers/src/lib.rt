@@ -7,7 +7,7 @@ ghost use Rattle.std.specs.Prelude.{◌≡◌, ◌*◌, ltb, get_or};
 ghost use Rattle.answers.specs.Answers.{number_of, carried_by, is_done, first_of};
 ghost use Rattle.answers.specs.Tests.{size_taken, size_test, buffer_test, place_test};
 
-#[derive(Drop)]
+#[derive(Clone, Copy)]
 pub enum Answer {
     // The call did its work.
     Done,

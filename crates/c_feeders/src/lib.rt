@@ -10,7 +10,7 @@ use rows::Corrections;
 // How many feeders were accepted, and the index of the first that was refused, or how many there are
 // where none was.
 #[repr(C)]
-#[derive(Drop)]
+#[derive(Clone, Copy)]
 pub struct Counts {
     pub accepted: usize,
     pub first_refused: usize,
@@ -43,7 +43,7 @@ pub extern "C" fn yurgamysh_feeders_correct(
 }
 
 // What the call says in numbers: its code, and the counts that go with the code 0.
-#[derive(Drop)]
+#[derive(Clone, Copy)]
 struct Spelt {
     code: usize,
     counts: Counts,

@@ -32,7 +32,7 @@ pub extern "C" fn yurgamysh_one_state_correct(yarn: &mut OneState, z: f32) -> us
 }
 
 // What became of a correction: its code, and the record after it.
-#[derive(Drop)]
+#[derive(Clone, Copy)]
 struct Trial {
     code: usize,
     after: OneState,

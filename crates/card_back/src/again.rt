@@ -5,7 +5,7 @@ use cards::Written;
 use lists::{Seen, seen};
 
 // What writing said: its code and, where the card is written, its length.
-#[derive(Drop)]
+#[derive(Clone, Copy)]
 pub struct Writing {
     pub code: usize,
     pub length: usize,

@@ -8,7 +8,7 @@ use lists::seen::one_more;
 
 // The counts so far, how many bytes the card has that stands in the base, and how long the buffers
 // are.
-#[derive(Drop)]
+#[derive(Clone, Copy)]
 pub struct Cases {
     pub t: Tally,
     pub len: usize,

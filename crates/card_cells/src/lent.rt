@@ -3,7 +3,7 @@ ghost use Rattle.std.specs.Prelude.{◌≡◌, min};
 ghost use Rattle.card_cells.specs.Lent.{lent_bits, Lends};
 
 // How many numbers the buffers for A, Q, H and R have, and the position behind the words.
-#[derive(Drop)]
+#[derive(Clone, Copy)]
 pub struct Lengths {
     pub a: usize,
     pub q: usize,
@@ -13,7 +13,7 @@ pub struct Lengths {
 }
 
 // A length, and the position behind its word: lost where it is above 272.
-#[derive(Drop)]
+#[derive(Clone, Copy)]
 pub struct Length {
     pub n: usize,
     pub next: usize,
@@ -56,7 +56,7 @@ pub fn lent_bits(buffer: usize, i: usize) -> u32
 }
 
 // A buffer as it is lent: its numbers, and how many of them are lent.
-#[derive(Drop)]
+#[derive(Clone, Copy)]
 pub struct Lent {
     pub cells: [f32; 272],
     pub len: usize,

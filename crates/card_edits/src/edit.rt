@@ -2,7 +2,7 @@
 
 // Bytes are taken out from a position on, so many. Where `put` says so a byte stands in their place,
 // each of a range in turn. And the position behind the words.
-#[derive(Drop)]
+#[derive(Clone, Copy)]
 pub struct Edit {
     pub at: usize,
     pub skip: usize,

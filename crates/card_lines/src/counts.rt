@@ -7,7 +7,7 @@ ghost use Rattle.card_lines.specs.Places.{counted_at, counted_from};
 use crate::keys::begins_at;
 
 // What reading a count finds.
-#[derive(Drop)]
+#[derive(Clone, Copy)]
 pub enum Counted {
     // The number, and the position behind the line.
     Number(usize, usize),

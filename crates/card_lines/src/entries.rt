@@ -7,7 +7,7 @@ use crate::eight::field_at;
 use crate::keys::begins_at;
 
 // What judging a line of entries finds.
-#[derive(Drop)]
+#[derive(Clone, Copy)]
 pub enum Found {
     // The line is right: the position behind it.
     Next(usize),

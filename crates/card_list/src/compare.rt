@@ -8,7 +8,7 @@ use lists::{Seen, seen};
 pub const SIZES: usize = 102;
 
 // What reading said: its code and, where the card is taken, both sizes.
-#[derive(Drop)]
+#[derive(Clone, Copy)]
 pub struct Reading {
     pub code: usize,
     pub n: usize,
@@ -51,7 +51,7 @@ fn times(rows: u32, cols: u32) -> usize {
 }
 
 // How many entries of A and of Q, of H and of R a line has.
-#[derive(Drop)]
+#[derive(Clone, Copy)]
 pub struct Entries {
     pub a: usize,
     pub h: usize,
@@ -75,7 +75,7 @@ fn entries_at(s: &[u8], at: usize) -> Entries {
 
 // What comparing a card found: of reading it and, where the line expects that it is taken, of writing it
 // again.
-#[derive(Drop)]
+#[derive(Clone, Copy)]
 pub struct Compared {
     pub read: Seen,
     pub taken: bool,

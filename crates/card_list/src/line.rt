@@ -7,7 +7,7 @@ use lists::{Seen, seen};
 
 // How many cards were compared and how many of them differ, the byte that was put into the first that
 // does, and what its comparison found.
-#[derive(Drop)]
+#[derive(Clone, Copy)]
 pub struct Count {
     pub cards: u64,
     pub differ: u64,
@@ -56,7 +56,7 @@ impl Count {
 
 // The cards that were read, and those that were written again. And the position behind the words, LOST
 // where no card was read.
-#[derive(Drop)]
+#[derive(Clone, Copy)]
 pub struct Found {
     pub read: Count,
     pub back: Count,

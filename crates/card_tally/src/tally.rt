@@ -5,7 +5,7 @@ use lists::seen::one_more;
 // How many lines were read, comments too; how many cards were read, and how many differences there are, a
 // card that differs or a line that is bad; how many cards were written again, and how many of them differ;
 // how many lines are bad; and how many lines were told of.
-#[derive(Drop)]
+#[derive(Clone, Copy)]
 pub struct Tally {
     pub lines: u64,
     pub cards: u64,

@@ -8,7 +8,7 @@ use answers::Answer;
 use card_lines::{Counted, Found, count_line, entries_line};
 
 // What judging a card finds.
-#[derive(Drop)]
+#[derive(Clone, Copy)]
 pub enum Verdict {
     // It is right: how many states and observations it has, and where its line 4 begins.
     Taken(usize, usize, usize),
@@ -53,7 +53,7 @@ fn heading(s: &[u8]) -> Verdict
 }
 
 // What judging a line with a size finds.
-#[derive(Drop)]
+#[derive(Clone, Copy)]
 enum Sized {
     // It is right: the size, and where the next line begins.
     Size(usize, usize),

@@ -14,7 +14,7 @@ use card_verdicts::{Verdict, judge};
 use matrices::fill_all;
 
 // What reading a card says.
-#[derive(Drop)]
+#[derive(Clone, Copy)]
 pub enum Card {
     // It is taken: how many states and how many observations it has.
     Sizes(usize, usize),
@@ -23,7 +23,7 @@ pub enum Card {
 }
 
 // What writing a card says.
-#[derive(Drop)]
+#[derive(Clone, Copy)]
 pub enum Written {
     // It is written: how many bytes it has.
     Length(usize),

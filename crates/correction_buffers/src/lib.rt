@@ -5,7 +5,7 @@ use answers::Answer;
 use lists::{Lent, Seen, lend, seen};
 
 // The twelve buffers of a correction; of an update, which takes no z, that one is none.
-#[derive(Drop)]
+#[derive(Clone, Copy)]
 pub struct Buffers {
     pub x: Lent,
     pub p: Lent,
@@ -22,7 +22,7 @@ pub struct Buffers {
 }
 
 // What the call answered, and the cells of the buffers that it may have written.
-#[derive(Drop)]
+#[derive(Clone, Copy)]
 pub struct Done {
     pub v: Answer,
     pub x: [f32; 304],

@@ -33,7 +33,7 @@ fn root_bits(m: u32, d: u32) -> u32
 }
 
 // A number m · 2^(d − 274), m of 24 binary digits.
-#[derive(Drop)]
+#[derive(Clone, Copy)]
 struct Scaled {
     m: u32,
     d: u32,

@@ -5,7 +5,7 @@ ghost use Rattle.feeder.specs.Feeder.{at_start, tension_of, forecast, Took};
 use answers::Answer;
 
 // The estimate x, in cN and cN a step, and its covariance P, row-major.
-#[derive(Drop)]
+#[derive(Clone, Copy)]
 pub struct Feeder {
     pub x: [f32; 2],
     pub p: [f32; 4],
@@ -36,7 +36,7 @@ pub fn predict(f: Feeder) -> Feeder
 }
 
 // What a correction said, and the feeder after it.
-#[derive(Drop)]
+#[derive(Clone, Copy)]
 pub struct Corrected {
     pub answer: Answer,
     pub after: Feeder,

@@ -8,7 +8,7 @@ ghost use Rattle.four_stages.specs.Stages.{lent_in, Observed, Rooted, inverted, 
 use side_by_side::{Eight, Four, Sixteen};
 
 // What a correction reads: x, P, H and R, row by row, and z.
-#[derive(Drop)]
+#[derive(Clone, Copy)]
 pub struct Operands {
     pub x: Four,
     pub p: Sixteen,
@@ -19,7 +19,7 @@ pub struct Operands {
 }
 
 // What goes before the pivots: the innovation, H·P and S.
-#[derive(Drop)]
+#[derive(Clone, Copy)]
 pub struct Seen {
     pub y0: f32,
     pub y1: f32,
@@ -29,7 +29,7 @@ pub struct Seen {
 
 // What the decomposition of S leaves: how many pivots are taken, the numbers of S, and the reciprocals of
 // the factor's diagonal where both are.
-#[derive(Drop)]
+#[derive(Clone, Copy)]
 pub struct Root {
     pub taken: usize,
     pub l: Four,
@@ -38,7 +38,7 @@ pub struct Root {
 }
 
 // The inverse of S, P·Hᵀ and the gain, these two in rows of two.
-#[derive(Drop)]
+#[derive(Clone, Copy)]
 pub struct Gain {
     pub i: Four,
     pub f: Eight,

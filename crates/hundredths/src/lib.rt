@@ -2,7 +2,7 @@
 ghost use Rattle.hundredths.specs.Hundredths.{InHundredths};
 
 // What a number is in hundredths.
-#[derive(Drop)]
+#[derive(Clone, Copy)]
 pub enum Hundredths {
     // So many hundredths.
     Of(u64),

@@ -6,7 +6,7 @@ pub use names::job_of;
 pub use shapes::shape_of;
 
 // A function of the filter, as the list names it.
-#[derive(Drop)]
+#[derive(Clone, Copy)]
 pub enum Job {
     Get,
     Set,

@@ -11,7 +11,7 @@ pub use pattern::{bits_of, float_of, same};
 pub use words::{LOST, Word, word_at};
 
 // What reading a number finds.
-#[derive(Drop)]
+#[derive(Clone, Copy)]
 pub enum Read {
     // The number, and the position after its last digit.
     Number(u32, usize),

@@ -9,7 +9,7 @@ use crate::{Read, byte_at, hex8};
 pub const LOST: usize = 0xffff_ffff_ffff_ffff;
 
 // A word's digits as a number, and the position behind them.
-#[derive(Drop)]
+#[derive(Clone, Copy)]
 pub struct Word {
     pub bits: u32,
     pub next: usize,

@@ -5,7 +5,7 @@ use lists::seen::one_more;
 // How many lines were read, comments too; how many are calls that could be read and how many numbers
 // were compared in them; how many differences there are, a number that differs or a line that is bad;
 // how many lines are bad; and how many lines were written of.
-#[derive(Drop)]
+#[derive(Clone, Copy)]
 pub struct Tally {
     pub lines: u64,
     pub calls: u64,

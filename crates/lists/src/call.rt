@@ -5,7 +5,7 @@ ghost use Rattle.lists.specs.Lent.{Lends, none_at, numbers_at, lent_at};
 
 // What a function takes and hands back: how many sizes, whether a row and a column, how many floats,
 // how many buffers, and whether a value comes back.
-#[derive(Drop)]
+#[derive(Clone, Copy)]
 pub struct Shape {
     pub sizes: usize,
     pub row: bool,
@@ -16,7 +16,7 @@ pub struct Shape {
 }
 
 // The sizes, the place and the floats of a call, 0 where it takes none, and the position behind.
-#[derive(Drop)]
+#[derive(Clone, Copy)]
 pub struct Head {
     pub first: usize,
     pub second: usize,
@@ -29,7 +29,7 @@ pub struct Head {
 }
 
 // A whole number, and the position behind it.
-#[derive(Drop)]
+#[derive(Clone, Copy)]
 pub struct Whole {
     pub n: usize,
     pub next: usize,
@@ -56,7 +56,7 @@ fn whole_at(s: &[u8], at: usize, wanted: bool) -> Whole
 }
 
 // A float, and the position behind it.
-#[derive(Drop)]
+#[derive(Clone, Copy)]
 pub struct Real {
     pub x: f32,
     pub next: usize,
@@ -100,7 +100,7 @@ pub fn head_at(s: &[u8], at: usize, h: Shape) -> Head
 }
 
 // A buffer as it is lent: its length, its numbers, and the position behind them.
-#[derive(Drop)]
+#[derive(Clone, Copy)]
 pub struct Lent {
     pub cells: [f32; 304],
     pub len: usize,

@@ -6,7 +6,7 @@ use answers::Answer;
 
 // The position of the next word, how many numbers were compared, how many of them differ, and of the
 // first that differs: its place, what the list has and what was found.
-#[derive(Drop)]
+#[derive(Clone, Copy)]
 pub struct Seen {
     pub next: usize,
     pub numbers: u64,

@@ -9,7 +9,7 @@ use pivots::Pivot;
 // Tension on one yarn: the estimate x and its spread p, the model a and q, the reading's h and r; and
 // how many corrections were refused in a row, 255 for that many or more.
 #[repr(C)]
-#[derive(Drop)]
+#[derive(Clone, Copy)]
 pub struct OneState {
     pub x: f32,
     pub p: f32,
@@ -21,7 +21,7 @@ pub struct OneState {
 }
 
 // What a correction hands back.
-#[derive(Drop)]
+#[derive(Clone, Copy)]
 pub enum Corrected {
     // The record with the new x and p, blind no more.
     Accepted(OneState),

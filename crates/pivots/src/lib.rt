@@ -5,7 +5,7 @@ ghost use Rattle.factors.specs.Pivots.{pivot_taken};
 ghost use Rattle.pivots.specs.Pivots.{pivot_of};
 
 // A pivot: its root and the root's reciprocal, or the pivot that is refused.
-#[derive(Drop)]
+#[derive(Clone, Copy)]
 pub enum Pivot {
     Accepted(f32, f32),
     Refused(f32),

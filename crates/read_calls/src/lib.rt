@@ -4,7 +4,7 @@ use jobs::Job;
 use lists::Head;
 
 // What a call hands back.
-#[derive(Drop)]
+#[derive(Clone, Copy)]
 pub struct Got {
     pub v: Answer,
     pub x: f32,

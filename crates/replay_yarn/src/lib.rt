@@ -8,14 +8,14 @@ use lists::{Seen, Shape, head_at, seen};
 use one_state::{Corrected, OneState};
 
 // A record as a line has it, and the position behind it.
-#[derive(Drop)]
+#[derive(Clone, Copy)]
 struct Lent {
     yarn: OneState,
     next: usize,
 }
 
 // How often a record was refused in a row, as a line has it, and the position behind it.
-#[derive(Drop)]
+#[derive(Clone, Copy)]
 struct Blind {
     blind: u8,
     next: usize,

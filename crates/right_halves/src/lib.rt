@@ -11,7 +11,7 @@ ghost use Rattle.factors.specs.Decomposition.{SameUpper};
 use side_by_side::{Eight, Four};
 
 // The totals of the right half of two rows.
-#[derive(Drop)]
+#[derive(Clone, Copy)]
 pub struct Halves {
     pub u: Eight,
     pub v: Eight,

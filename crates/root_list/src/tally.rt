@@ -7,7 +7,7 @@ use crate::pattern::agrees;
 
 // How many pairs were compared, how many of these differ, and how many lines are neither a pair
 // nor a comment.
-#[derive(Drop)]
+#[derive(Clone, Copy)]
 pub struct Tally {
     pub compared: u64,
     pub differ: u64,

@@ -13,7 +13,7 @@ pub use fill::{
 pub use cells::{cores, gates};
 
 // What get finds.
-#[derive(Drop)]
+#[derive(Clone, Copy)]
 pub enum Read {
     // The number in the cell.
     Value(f32),

@@ -10,7 +10,7 @@ ghost use Rattle.entries.specs.Entries.{product};
 use side_by_side::{Four, Sixteen};
 
 // The totals of two rows.
-#[derive(Drop)]
+#[derive(Clone, Copy)]
 pub struct Pair {
     pub u: Sixteen,
     pub v: Sixteen,

@@ -10,7 +10,7 @@ use answers::Answer;
 use one_state::{Corrected, OneState};
 
 // What the correction of a row says.
-#[derive(Drop)]
+#[derive(Clone, Copy)]
 pub enum Corrections {
     // Every feeder was accepted, and how many they are.
     All(usize),
@@ -22,7 +22,7 @@ pub enum Corrections {
 
 // Of the feeders that were corrected so far: how many were accepted, and the index of the first that
 // was refused, or how many they are where none was.
-#[derive(Drop)]
+#[derive(Clone, Copy)]
 pub struct Tally {
     pub accepted: usize,
     pub first: usize,
@@ -30,7 +30,7 @@ pub struct Tally {
 
 // What became of one feeder: its x, p and count, which are all that a correction changes, and the tally
 // with it in.
-#[derive(Drop)]
+#[derive(Clone, Copy)]
 pub struct Turn {
     pub x: f32,
     pub p: f32,

@@ -5,7 +5,7 @@ use feeder::{Feeder, correct, predict};
 use wire::{Outcome, Reading};
 
 // A step of the shift: the feeder as predicted, what became of the reading, and the feeder after it.
-#[derive(Drop)]
+#[derive(Clone, Copy)]
 pub struct Step {
     pub predicted: Feeder,
     pub outcome: Outcome,

@@ -6,7 +6,7 @@ use crate::step::Step;
 use wire::Outcome;
 
 // What became of the readings, and the tension's estimate before and after the last refusal.
-#[derive(Drop)]
+#[derive(Clone, Copy)]
 pub struct Tally {
     pub taken: u64,
     pub refused: u64,

@@ -4,7 +4,7 @@ ghost use Rattle.std.specs.Prelude.{◌≡◌, ◌+◌, ◌*◌, ◌<◌, ◌≤
 ghost use Rattle.std.specs.Float.{binary32, nan};
 ghost use Rattle.std.specs.Float.Ieee.{add, mul};
 
-#[derive(Drop)]
+#[derive(Clone, Copy)]
 pub struct Four {
     pub t0: f32,
     pub t1: f32,
@@ -13,20 +13,20 @@ pub struct Four {
 }
 
 // Eight, twelve and sixteen of them, in fours.
-#[derive(Drop)]
+#[derive(Clone, Copy)]
 pub struct Eight {
     pub f0: Four,
     pub f1: Four,
 }
 
-#[derive(Drop)]
+#[derive(Clone, Copy)]
 pub struct Twelve {
     pub f0: Four,
     pub f1: Four,
     pub f2: Four,
 }
 
-#[derive(Drop)]
+#[derive(Clone, Copy)]
 pub struct Sixteen {
     pub f0: Four,
     pub f1: Four,

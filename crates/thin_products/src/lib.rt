@@ -10,7 +10,7 @@ ghost use Rattle.grids.specs.Grid.{cell, run, grid};
 ghost use Rattle.entries.specs.Entries.{times};
 ghost use Rattle.thin_products.specs.Thin.{number_at, strided};
 
-#[derive(Drop)]
+#[derive(Clone, Copy)]
 pub struct Three {
     pub t0: f32,
     pub t1: f32,

@@ -7,7 +7,7 @@ ghost use Rattle.grids.specs.Grid.{grid};
 ghost use Rattle.three_solved.specs.Solved.{factor_in, inverse_in, refused_all, solved_of};
 
 // Whether every pivot is taken; and then the factor, and the inverse from it, which is symmetric.
-#[derive(Drop)]
+#[derive(Clone, Copy)]
 pub struct Solved {
     pub taken: bool,
     pub l00: f32,

@@ -8,7 +8,7 @@ ghost use Rattle.two_stages.specs.Stages.{lent_in, seen, renewal};
 use side_by_side::Four;
 
 // What a correction reads: x, P row by row, H, z and R.
-#[derive(Drop)]
+#[derive(Clone, Copy)]
 pub struct Operands {
     pub x0: f32,
     pub x1: f32,
@@ -20,7 +20,7 @@ pub struct Operands {
 }
 
 // What goes before the pivot: the innovation, S, and H·P and P·Hᵀ, these two without their start.
-#[derive(Drop)]
+#[derive(Clone, Copy)]
 pub struct Seen {
     pub y: f32,
     pub s: f32,
@@ -31,7 +31,7 @@ pub struct Seen {
 }
 
 // What comes after it: the gain, the gain times H·P, the new x and the new P.
-#[derive(Drop)]
+#[derive(Clone, Copy)]
 pub struct Renewal {
     pub k0: f32,
     pub k1: f32,

@@ -5,7 +5,7 @@ use refills::{lines_end, move_down, refill};
 
 // The counts so far, how many bytes of an unfinished line stand at the buffer's front, and whether
 // there may be more to read.
-#[derive(Drop)]
+#[derive(Clone, Copy)]
 pub struct Fed {
     pub t: Tally,
     pub kept: usize,

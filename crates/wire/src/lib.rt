@@ -2,7 +2,7 @@
 use answers::Answer;
 
 // What the wire brings in a step.
-#[derive(Drop)]
+#[derive(Clone, Copy)]
 pub enum Reading {
     // The tension in cN, and the reading's noise R in cN².
     Arrived(f32, f32),
@@ -11,7 +11,7 @@ pub enum Reading {
 }
 
 // What became of a step's reading.
-#[derive(Drop)]
+#[derive(Clone, Copy)]
 pub enum Outcome {
     // None arrived.
     NoReading,

@@ -7,7 +7,7 @@ use one_state::{Corrected, OneState};
 use wire::{Outcome, Reading};
 
 // A step: what became of the reading, and the yarn after it.
-#[derive(Drop)]
+#[derive(Clone, Copy)]
 pub struct Step {
     pub outcome: Outcome,
     pub after: OneState,

@@ -6,20 +6,20 @@ use Rattle.answers.proofs.Shorter.{few, none, by_quotient}
 use Rattle.answers.proofs.is_shorter.Statement.{statement}
 use Rattle.answers.proofs.is_shorter.Tie as tie
 
-mul-result : tie.Need-overflow-mul-result
-mul-result c = let a = c.before.before.args in let h = few a.rows a.cols c.before.if1.true (leb-true _ _ c.if2.true) in omega arith
+overflow_mul-result : tie.Need-overflow_mul-result
+overflow_mul-result c = let a = c.args in let h = few a.rows a.cols c.if-rows-le16.true (leb-true _ _ c.if-cols-le16.true-raw) in omega arith
+
+returns-then-cols-le16 : tie.Need-returns-then-cols-le16
+returns-then-cols-le16 c = search rules
+
+returns-then-cols-eq0 : tie.Need-returns-then-cols-eq0
+returns-then-cols-eq0 c = none _ _ _ c.if-cols-eq0.true
+
+nonzero_div-result : tie.Need-nonzero_div-result
+nonzero_div-result c = search rules
 
 returns : tie.Need-returns
-returns c = search rules
+returns c = by_quotient _ _ _ c.if-cols-eq0.false
 
-returns-2 : tie.Need-returns-2
-returns-2 c = none _ _ _ c.if3.true
-
-div-result : tie.Need-nonzero-div-result
-div-result c = search rules
-
-returns-3 : tie.Need-returns-3
-returns-3 c = by_quotient _ _ _ c.if3.false
-
-pub is-shorter-spec : {M : Type 1} → statement M
-is-shorter-spec = tie.close (tie.spec mul-result returns returns-2 div-result returns-3)
+pub is_shorter_spec : {M : Type 1} → statement M
+is_shorter_spec = tie.close (tie.spec overflow_mul-result returns-then-cols-le16 returns-then-cols-eq0 nonzero_div-result returns)

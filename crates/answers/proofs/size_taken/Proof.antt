@@ -3,11 +3,11 @@ use borrow.Author.Tests.{le-leb, lt-leb}
 use Rattle.answers.proofs.size_taken.Statement.{statement}
 use Rattle.answers.proofs.size_taken.Tie as tie
 
-returns : tie.Need-returns
-returns c = simp (le-leb _ _ c.if1.true)
+returns-then-n-ge1 : tie.Need-returns-then-n-ge1
+returns-then-n-ge1 c = simp (le-leb _ _ c.if-n-ge1.true)
 
-returns-2 : tie.Need-returns-2
-returns-2 c = simp (lt-leb _ _ c.if1.false)
+returns-else-n-ge1 : tie.Need-returns-else-n-ge1
+returns-else-n-ge1 c = simp (lt-leb _ _ c.if-n-ge1.false)
 
-pub size-taken-spec : {M : Type 1} → statement M
-size-taken-spec = tie.close (tie.spec returns returns-2)
+pub size_taken_spec : {M : Type 1} → statement M
+size_taken_spec = tie.close (tie.spec returns-then-n-ge1 returns-else-n-ge1)

@@ -5,17 +5,17 @@ use borrow.Author.Tests.{lt-ltb, le-ltb}
 use Rattle.answers.proofs.then_buffer.Statement.{statement}
 use Rattle.answers.proofs.then_buffer.Tie as tie
 
-is-done-requires : tie.Need-is-done-requires
-is-done-requires c κs = search rules
+is_done-requires : tie.Need-is_done-requires
+is_done-requires c κs = search rules
 
-returns : tie.Need-returns
-returns c = simp (sym c.before.before.is-done.ensures ∙ c.before.if1.true, lt-ltb _ _ c.if2.true)
+returns-then-len-cells : tie.Need-returns-then-len-cells
+returns-then-len-cells c = simp (sym c.is_done.ensures ∙ c.if-is_done.true, lt-ltb _ _ c.if-len-cells.true)
 
-returns-2 : tie.Need-returns-2
-returns-2 c = simp (sym c.before.before.is-done.ensures ∙ c.before.if1.true, le-ltb _ _ c.if2.false)
+returns-else-len-cells : tie.Need-returns-else-len-cells
+returns-else-len-cells c = simp (sym c.is_done.ensures ∙ c.if-is_done.true, le-ltb _ _ c.if-len-cells.false)
 
-returns-3 : tie.Need-returns-3
-returns-3 c = simp (sym c.before.is-done.ensures ∙ c.if1.false)
+returns-else-is_done : tie.Need-returns-else-is_done
+returns-else-is_done c = simp (sym c.is_done.ensures ∙ c.if-is_done.false)
 
-pub then-buffer-spec : {M : Type 1} → statement M
-then-buffer-spec = tie.close (tie.spec is-done-requires returns returns-2 returns-3)
+pub then_buffer_spec : {M : Type 1} → statement M
+then_buffer_spec = tie.close (tie.spec is_done-requires returns-then-len-cells returns-else-len-cells returns-else-is_done)

@@ -4,20 +4,20 @@ use borrow.Author.Rules.{rules}
 use Rattle.answers.proofs.then_matrix.Statement.{statement}
 use Rattle.answers.proofs.then_matrix.Tie as tie
 
-is-done-requires : tie.Need-is-done-requires
-is-done-requires c κs = search rules
+is_done-requires : tie.Need-is_done-requires
+is_done-requires c κs = search rules
 
-is-shorter-requires : tie.Need-is-shorter-requires
-is-shorter-requires c κs = search rules
+is_shorter-requires : tie.Need-is_shorter-requires
+is_shorter-requires c κs = search rules
 
-returns : tie.Need-returns
-returns c = simp (sym c.before.before.before.is-done.ensures ∙ c.before.before.if1.true, sym c.before.is-shorter.ensures ∙ c.if2.true)
+returns-then-is_shorter : tie.Need-returns-then-is_shorter
+returns-then-is_shorter c = simp (sym c.is_done.ensures ∙ c.if-is_done.true, sym c.is_shorter.ensures ∙ c.if-is_shorter.true)
 
-returns-2 : tie.Need-returns-2
-returns-2 c = simp (sym c.before.before.before.is-done.ensures ∙ c.before.before.if1.true, sym c.before.is-shorter.ensures ∙ c.if2.false)
+returns-else-is_shorter : tie.Need-returns-else-is_shorter
+returns-else-is_shorter c = simp (sym c.is_done.ensures ∙ c.if-is_done.true, sym c.is_shorter.ensures ∙ c.if-is_shorter.false)
 
-returns-3 : tie.Need-returns-3
-returns-3 c = simp (sym c.before.is-done.ensures ∙ c.if1.false)
+returns-else-is_done : tie.Need-returns-else-is_done
+returns-else-is_done c = simp (sym c.is_done.ensures ∙ c.if-is_done.false)
 
-pub then-matrix-spec : {M : Type 1} → statement M
-then-matrix-spec = tie.close (tie.spec is-done-requires is-shorter-requires returns returns-2 returns-3)
+pub then_matrix_spec : {M : Type 1} → statement M
+then_matrix_spec = tie.close (tie.spec is_done-requires is_shorter-requires returns-then-is_shorter returns-else-is_shorter returns-else-is_done)

@@ -4,20 +4,20 @@ use borrow.Author.Rules.{rules}
 use Rattle.answers.proofs.then_size.Statement.{statement}
 use Rattle.answers.proofs.then_size.Tie as tie
 
-is-done-requires : tie.Need-is-done-requires
-is-done-requires c κs = search rules
+is_done-requires : tie.Need-is_done-requires
+is_done-requires c κs = search rules
 
-size-taken-requires : tie.Need-size-taken-requires
-size-taken-requires c κs = search rules
+size_taken-requires : tie.Need-size_taken-requires
+size_taken-requires c κs = search rules
 
-returns : tie.Need-returns
-returns c = simp (sym c.before.before.before.is-done.ensures ∙ c.before.before.if1.true, sym c.before.size-taken.ensures ∙ c.if2.true)
+returns-then-size_taken : tie.Need-returns-then-size_taken
+returns-then-size_taken c = simp (sym c.is_done.ensures ∙ c.if-is_done.true, sym c.size_taken.ensures ∙ c.if-size_taken.true)
 
-returns-2 : tie.Need-returns-2
-returns-2 c = simp (sym c.before.before.before.is-done.ensures ∙ c.before.before.if1.true, sym c.before.size-taken.ensures ∙ c.if2.false)
+returns-else-size_taken : tie.Need-returns-else-size_taken
+returns-else-size_taken c = simp (sym c.is_done.ensures ∙ c.if-is_done.true, sym c.size_taken.ensures ∙ c.if-size_taken.false)
 
-returns-3 : tie.Need-returns-3
-returns-3 c = simp (sym c.before.is-done.ensures ∙ c.if1.false)
+returns-else-is_done : tie.Need-returns-else-is_done
+returns-else-is_done c = simp (sym c.is_done.ensures ∙ c.if-is_done.false)
 
-pub then-size-spec : {M : Type 1} → statement M
-then-size-spec = tie.close (tie.spec is-done-requires size-taken-requires returns returns-2 returns-3)
+pub then_size_spec : {M : Type 1} → statement M
+then_size_spec = tie.close (tie.spec is_done-requires size_taken-requires returns-then-size_taken returns-else-size_taken returns-else-is_done)

@@ -24,7 +24,7 @@ returns c =
 returns-2 : tie.Need-returns-2
 returns-2 c =
     let a = c.before.before.before.before.before.args in
-    refused_told 8 a.states a.observations a.length.now c.before.before.before.before.length-of.ensures c.before.before.v.given.1 c.code_of_lem.ensures
+    refused_told 8 a.states a.observations a.length.now c.before.before.before.before.length-of.ensures c.before.before.v.given.1 c.code_of.ensures
 
 pub yurgamysh-card-length-spec : {M : Type 1} → statement M
 yurgamysh-card-length-spec =

@@ -49,7 +49,7 @@ same-length-8 c = search rules
 returns-2 : tie.Need-returns-2
 returns-2 c =
     let a = c.before.before.before.before.before.before.before.before.before.before.before.before.before.before.before.before.before.before.before.before.before.before.args in
-    refused binary32 8 a.card.now a.a.now a.q.now a.h.now a.r.now a.states.now a.observations.now _ _ _ _ c.before.before.before.before.before.before.before.before.before.before.before.before.read.ensures c.before.before.v.given.1 c.code_of_lem.ensures
+    refused binary32 8 a.card.now a.a.now a.q.now a.h.now a.r.now a.states.now a.observations.now _ _ _ _ c.before.before.before.before.before.before.before.before.before.before.before.before.read.ensures c.before.before.v.given.1 c.code_of.ensures
 
 pub yurgamysh-card-read-spec : {M : Type 1} → statement M
 yurgamysh-card-read-spec =

@@ -31,7 +31,7 @@ same-length-2 c = search rules
 returns-2 : tie.Need-returns-2
 returns-2 c =
     let a = c.before.before.before.before.before.before.before.before.before.before.before.before.before.args in
-    refused binary32 8 a.states a.observations a.a.now a.q.now a.h.now a.r.now a.card.now a.length.now _ c.before.before.before.before.before.before.write.ensures c.before.before.v.given.1 c.code_of_lem.ensures
+    refused binary32 8 a.states a.observations a.a.now a.q.now a.h.now a.r.now a.card.now a.length.now _ c.before.before.before.before.before.before.write.ensures c.before.before.v.given.1 c.code_of.ensures
 
 pub yurgamysh-card-write-spec : {M : Type 1} → statement M
 yurgamysh-card-write-spec =

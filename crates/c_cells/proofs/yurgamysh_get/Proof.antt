@@ -24,7 +24,7 @@ returns c =
 returns-2 : tie.Need-returns-2
 returns-2 c =
     let a = c.before.before.before.before.before.before.args in
-    refused a.rows a.cols a.m.now a.row a.column a.value.now c.before.before.before.before.get.ensures c.before.before.v.given.1 c.code_of_lem.ensures
+    refused a.rows a.cols a.m.now a.row a.column a.value.now c.before.before.before.before.get.ensures c.before.before.v.given.1 c.code_of.ensures
 
 pub yurgamysh-get-spec : {M : Type 1} → statement M
 yurgamysh-get-spec =

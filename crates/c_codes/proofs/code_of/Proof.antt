@@ -6,32 +6,32 @@ use Rattle.c_codes.proofs.Codes.{at_most_9}
 use Rattle.c_codes.proofs.code_of.Statement.{statement}
 use Rattle.c_codes.proofs.code_of.Tie as tie
 
-number-of-requires : tie.Need-number-of-requires
-number-of-requires c κs = search rules
+number_of-requires : tie.Need-number_of-requires
+number_of-requires c κs = search rules
 
-mul-result : tie.Need-overflow-mul-result
-mul-result c = omega (arith, at_most_9 c.before.args.v)
+overflow_mul-result : tie.Need-overflow_mul-result
+overflow_mul-result c = omega (arith, at_most_9 c.args.v)
 
-carried-by-requires : tie.Need-carried-by-requires
-carried-by-requires c κs = search rules
+carried_by-requires : tie.Need-carried_by-requires
+carried_by-requires c κs = search rules
 
-two-digits-requires : tie.Need-two-digits-requires
-two-digits-requires c κs = search rules
+two_digits-requires : tie.Need-two_digits-requires
+two_digits-requires c κs = search rules
 
-add-result : tie.Need-overflow-add-result
-add-result c = omega (arith, at_most_9 c.before.before.before.args.v)
+overflow_add-result : tie.Need-overflow_add-result
+overflow_add-result c = omega (arith, at_most_9 c.args.v)
 
 returns : tie.Need-returns
 unfolding code_of
 returns c = cc
 
-pub code-of-spec : {M : Type 1} → statement M
-code-of-spec =
+pub code_of_spec : {M : Type 1} → statement M
+code_of_spec =
     tie.close
     (tie.spec
-    number-of-requires
-    mul-result
-    carried-by-requires
-    two-digits-requires
-    add-result
+    number_of-requires
+    overflow_mul-result
+    carried_by-requires
+    two_digits-requires
+    overflow_add-result
     returns)

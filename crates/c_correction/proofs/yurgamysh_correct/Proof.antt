@@ -37,7 +37,7 @@ same-length-9 : tie.Need-same-length-9
 same-length-9 c = c.before.before.temp-khp.given
 
 returns : tie.Need-returns
-returns c = record { answer = _; code = c.code_of_lem.ensures; kept = c.before.before.before.before.before.before.before.before.before.before.before.before.before.before.before.before.before.before.before.correct.ensures }
+returns c = record { answer = _; code = c.code_of.ensures; kept = c.before.before.before.before.before.before.before.before.before.before.before.before.before.before.before.before.before.before.before.correct.ensures }
 
 pub yurgamysh-correct-spec : {M : Type 1} → statement M
 yurgamysh-correct-spec =

@@ -34,7 +34,7 @@ same-length-8 : tie.Need-same-length-8
 same-length-8 c = c.before.before.temp-khp.given
 
 returns : tie.Need-returns
-returns c = record { answer = _; code = c.code_of_lem.ensures; kept = c.before.before.before.before.before.before.before.before.before.before.before.before.before.before.before.before.before.update-with-innovation.ensures }
+returns c = record { answer = _; code = c.code_of.ensures; kept = c.before.before.before.before.before.before.before.before.before.before.before.before.before.before.before.before.before.update-with-innovation.ensures }
 
 pub yurgamysh-update-spec : {M : Type 1} → statement M
 yurgamysh-update-spec =

@@ -23,7 +23,7 @@ returns-2 : tie.Need-returns-2
 returns-2 c = part_said _ _ _ _ c.before.c2.given.1
 
 returns-3 : tie.Need-returns-3
-returns-3 c = refused_said _ _ _ _ c.before.before.c3.given.1 c.code_of_lem.ensures
+returns-3 c = refused_said _ _ _ _ c.before.before.c3.given.1 c.code_of.ensures
 
 pub said-spec : {M : Type 1} → statement M
 said-spec = tie.close (tie.spec enum-known-c enum-known-c-2 enum-known-c-3 code-of-requires returns returns-2 returns-3)

@@ -22,7 +22,7 @@ same-length-4 : tie.Need-same-length-4
 same-length-4 c = c.before.before.temp.given
 
 returns : tie.Need-returns
-returns c = record { answer = _; code = c.code_of_lem.ensures; kept = c.before.before.before.before.before.before.before.before.before.predict.ensures }
+returns c = record { answer = _; code = c.code_of.ensures; kept = c.before.before.before.before.before.before.before.before.before.predict.ensures }
 
 pub yurgamysh-predict-spec : {M : Type 1} → statement M
 yurgamysh-predict-spec = tie.close (tie.spec predict-requires code-of-requires same_length same-length-2 same-length-3 same-length-4 returns)

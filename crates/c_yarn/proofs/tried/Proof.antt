@@ -21,7 +21,7 @@ code-of-requires-2 : tie.Need-code-of-requires-2
 code-of-requires-2 c κs = search rules
 
 returns : tie.Need-returns
-returns c = accepted _ _ _ _ (sym c.before.before.before.before.correct.ensures ∙ c.before.before.renewed.given.1) c.code_of_lem.ensures
+returns c = accepted _ _ _ _ (sym c.before.before.before.before.correct.ensures ∙ c.before.before.renewed.given.1) c.code_of.ensures
 
 returns-2 : tie.Need-returns-2
 returns-2 c = refused _ _ _ _ _ (sym c.before.before.before.before.correct.ensures ∙ c.before.before.blinded.given.1) c.code-of2.ensures

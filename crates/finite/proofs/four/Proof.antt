@@ -3,7 +3,7 @@ use Rattle.finite.proofs.four.Statement.{statement}
 use Rattle.finite.proofs.four.Tie as tie
 
 returns : tie.Need-returns
-returns c = rw (c.also2.ensures, c.before.also.ensures, c.before.before.two.ensures)
+returns c = rw (c.also-2.ensures, c.also.ensures, c.two.ensures)
 
-pub four-spec : {M : Type 1} → statement M
-four-spec = tie.close (tie.spec (λ c κs. tt) (λ c κs. tt) (λ c κs. tt) returns)
+pub four_spec : {M : Type 1} → statement M
+four_spec = tie.close (tie.spec (λ c κs. tt) (λ c κs. tt) (λ c κs. tt) returns)

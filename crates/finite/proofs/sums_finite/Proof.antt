@@ -9,21 +9,21 @@ use Rattle.finite.proofs.Testing.{Testing, none_tested, one_failed, one_passed, 
 use Rattle.finite.proofs.sums_finite.Statement.{statement}
 use Rattle.finite.proofs.sums_finite.Tie as tie
 
-abbrev invariant-loop : tie.invariant-loop
+abbrev invariant-loop : tie.invariant-loop-i
 invariant-loop n a b all₀ i₀ all i = Testing (λ k. finite (add binary32 (get_or a k nan) (get_or b k nan))) n all i
 
-abbrev decreases-loop : tie.decreases-loop
+abbrev decreases-loop : tie.decreases-loop-i
 decreases-loop n a b all₀ i₀ all i = n - i
 
-loop-again : tie.Need-loop-preserved invariant-loop decreases-loop
-loop-again c =
+loop-i-preserved : tie.Need-loop-i-preserved invariant-loop decreases-loop
+loop-i-preserved c =
     let turn = c.before.before.before.before in
-    let told = c.before.is_finite.ensures in
-    let below = turn.loop-test.true in
-    ⊎_elim (λ w. one_failed turn.before.loop.invariant below told w.0.taken w.1) (λ w. one_passed turn.before.loop.invariant below told w.0.left w.1) c.if1.branch
+    let told = c.is_finite.ensures in
+    let below = turn.loop-i-test.true in
+    ⊎_elim (λ w. one_failed turn.loop-i.invariant below told w.0.taken w.1) (λ w. one_passed turn.loop-i.invariant below told w.0.left w.1) c.if-not-is_finite.branch
 
-pub sums-finite-spec : {M : Type 1} → statement M
-sums-finite-spec =
+pub sums_finite_spec : {M : Type 1} → statement M
+sums_finite_spec =
     tie.close
     (tie.spec
     invariant-loop
@@ -36,5 +36,5 @@ sums-finite-spec =
     (λ c κs. tt)
     (λ c. omega arith)
     (λ c. omega arith)
-    loop-again
-    (λ c. all_tested c.before.loop.invariant c.loop-test.false))
+    loop-i-preserved
+    (λ c. all_tested c.loop-i.invariant c.loop-i-test.false))

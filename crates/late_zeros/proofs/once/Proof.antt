@@ -8,7 +8,7 @@ use Rattle.late_zeros.proofs.once.Tie as tie
 
 returns : tie.Need-returns
 unfolding of_bits
-returns c = once binary32 _ _ (subst T (sym c.well-formed.0.1) tt)
+returns c = once binary32 _ _ (subst T (sym c.well_formed.0.1) tt)
 
-pub once-spec : {M : Type 1} → statement M
-once-spec = tie.close (tie.spec returns)
+pub once_spec : {M : Type 1} → statement M
+once_spec = tie.close (tie.spec returns)

@@ -8,7 +8,7 @@ use Rattle.late_zeros.proofs.one_more.Tie as tie
 
 returns : tie.Need-returns
 unfolding of_bits
-returns c = one_more binary32 _ _ (subst T (sym c.well-formed.0.1) tt) _ (subst T (sym c.well-formed.1.1.0.1) tt)
+returns c = one_more binary32 _ _ (subst T (sym c.well_formed.0.1) tt) _ (subst T (sym c.well_formed.1.1.0.1) tt)
 
-pub one-more-spec : {M : Type 1} → statement M
-one-more-spec = tie.close (tie.spec returns)
+pub one_more_spec : {M : Type 1} → statement M
+one_more_spec = tie.close (tie.spec returns)

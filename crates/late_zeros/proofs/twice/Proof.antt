@@ -8,7 +8,7 @@ use Rattle.late_zeros.proofs.twice.Tie as tie
 
 returns : tie.Need-returns
 unfolding of_bits
-returns c = twice binary32 _ _ (subst T (sym c.well-formed.0.1) tt) _ (subst T (sym c.well-formed.1.1.0.1) tt)
+returns c = twice binary32 _ _ (subst T (sym c.well_formed.0.1) tt) _ (subst T (sym c.well_formed.1.1.0.1) tt)
 
 pub twice_spec : {M : Type 1} → statement M
 twice_spec = tie.close (tie.spec returns)

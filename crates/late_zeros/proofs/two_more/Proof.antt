@@ -8,7 +8,7 @@ use Rattle.late_zeros.proofs.two_more.Tie as tie
 
 returns : tie.Need-returns
 unfolding of_bits
-returns c = two_more binary32 _ _ (subst T (sym c.well-formed.0.1) tt) _ _ _ (subst T (sym c.well-formed.1.1.0.1) tt) (subst T (sym c.well-formed.1.1.1.1.0.1) tt)
+returns c = two_more binary32 _ _ (subst T (sym c.well_formed.0.1) tt) _ _ _ (subst T (sym c.well_formed.1.1.0.1) tt) (subst T (sym c.well_formed.1.1.1.1.0.1) tt)
 
-pub two-more-spec : {M : Type 1} → statement M
-two-more-spec = tie.close (tie.spec returns)
+pub two_more_spec : {M : Type 1} → statement M
+two_more_spec = tie.close (tie.spec returns)

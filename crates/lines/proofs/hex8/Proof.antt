@@ -11,82 +11,82 @@ use Rattle.lines.proofs.Digits.{past_end, no_digit, all_read, Room, turn_same, t
 use Rattle.lines.proofs.hex8.Statement.{statement}
 use Rattle.lines.proofs.hex8.Tie as tie
 
-abbrev invariant-loop : tie.invariant-loop
+abbrev invariant-loop : tie.invariant-loop-left
 invariant-loop s at n₀ p₀ left₀ n p left = (left ≤ 8) × (digits_from left n s p ≡ digits_from 8 0 s at) × Room n left
 
-abbrev decreases-loop : tie.decreases-loop
+abbrev decreases-loop : tie.decreases-loop-left
 decreases-loop s at n₀ p₀ left₀ n p left = left
 
-loop-holds : tie.Need-loop-init invariant-loop decreases-loop
-loop-holds c = (search rules, refl, lit≤ tt)
+loop-left-init : tie.Need-loop-left-init invariant-loop decreases-loop
+loop-left-init c = (search rules, refl, lit≤ tt)
 
-returns : tie.Need-returns invariant-loop decreases-loop
-returns c = no_digit _ _ _ _ c.before.loop-test.true (past_end c.before.before.before.before.args.s.now _ c.if1.true) ∙ c.before.before.loop.invariant.1
+returns-then-s-p : tie.Need-returns-then-s-p invariant-loop decreases-loop
+returns-then-s-p c = no_digit _ _ _ _ c.loop-left-test.true (past_end c.args.s.now _ c.if-s-p.true) ∙ c.loop-left.invariant.1
 
-shared-slice-read-digit : tie.Need-shared-slice-read-digit invariant-loop decreases-loop
-shared-slice-read-digit c = search rules
+bounds-s-p : tie.Need-bounds-s-p invariant-loop decreases-loop
+bounds-s-p c = search rules
 
-digit-requires : tie.Need-digit-requires invariant-loop decreases-loop
-digit-requires c κs = tt
+digit-d-requires : tie.Need-digit-d-requires invariant-loop decreases-loop
+digit-d-requires c κs = tt
 
-returns-2 : tie.Need-returns-2 invariant-loop decreases-loop
-returns-2 c =
-    no_digit _ _ _ _ c.before.before.before.before.loop-test.true (sym c.before.digit.ensures ∙ c.if2.true)
-    ∙ c.before.before.before.before.before.loop.invariant.1
+returns-then-d-eq16 : tie.Need-returns-then-d-eq16 invariant-loop decreases-loop
+returns-then-d-eq16 c =
+    no_digit _ _ _ _ c.loop-left-test.true (sym c.digit-d.ensures ∙ c.if-d-eq16.true)
+    ∙ c.loop-left.invariant.1
 
 -- where a digit was read: the bytes, and its place
-abbrev bytes : tie.Else2 invariant-loop decreases-loop → List ℕ
-bytes c = c.before.before.before.before.before.before.before.args.s.now
+abbrev bytes : tie.Else-d-eq16 invariant-loop decreases-loop → List ℕ
+bytes c = c.args.s.now
 
-abbrev place : tie.Else2 invariant-loop decreases-loop → ℕ
-place c = c.before.before.before.before.before.loop.p
+abbrev place : tie.Else-d-eq16 invariant-loop decreases-loop → ℕ
+place c = c.loop-left.p
 
 -- the number with that digit fits
-fits : (c : tie.Else2 invariant-loop decreases-loop) → c.before.before.before.before.before.loop.n * 16 + c.before.digit.result < 4294967296
-fits c = turn_fits (bytes c) _ (place c) _ _ c.before.before.before.before.loop-test.true c.before.digit.ensures c.if2.false c.before.before.before.before.before.loop.invariant.2
+fits : (c : tie.Else-d-eq16 invariant-loop decreases-loop) → c.loop-left.n * 16 + c.digit-d.result < 4294967296
+fits c = turn_fits (bytes c) _ (place c) _ _ c.loop-left-test.true c.digit-d.ensures c.if-d-eq16.false c.loop-left.invariant.2
 
-mul-n : tie.Need-overflow-mul-n invariant-loop decreases-loop
-mul-n c = let h = fits c in omega arith
+overflow_mul-n : tie.Need-overflow_mul-n invariant-loop decreases-loop
+overflow_mul-n c = let h = fits c in omega arith
 
-add-n : tie.Need-overflow-add-n invariant-loop decreases-loop
-add-n c = let h = fits c in omega arith
+overflow_add-n : tie.Need-overflow_add-n invariant-loop decreases-loop
+overflow_add-n c = let h = fits c in omega arith
 
-add-p : tie.Need-overflow-add-p invariant-loop decreases-loop
-add-p c = search rules
+overflow_add-p : tie.Need-overflow_add-p invariant-loop decreases-loop
+overflow_add-p c = search rules
 
-sub-left : tie.Need-overflow-sub-left invariant-loop decreases-loop
-sub-left c = search rules
+overflow_sub-left : tie.Need-overflow_sub-left invariant-loop decreases-loop
+overflow_sub-left c = search rules
 
-loop-less : tie.Need-loop-smaller invariant-loop decreases-loop
-loop-less c = search rules
+loop-left-smaller : tie.Need-loop-left-smaller invariant-loop decreases-loop
+loop-left-smaller c = search rules
 
-loop-again : tie.Need-loop-preserved invariant-loop decreases-loop
-loop-again c =
-    let i = c.before.before.before.before.before.loop.invariant in
-    let more = c.before.before.before.before.loop-test.true in (
+loop-left-preserved : tie.Need-loop-left-preserved invariant-loop decreases-loop
+loop-left-preserved c =
+    let i = c.loop-left.invariant in
+    let more = c.loop-left-test.true in (
       search rules,
-      turn_same (bytes c) _ (place c) _ _ more c.before.digit.ensures c.if2.false ∙ i.1,
-      turn_room (bytes c) _ (place c) _ _ more c.before.digit.ensures c.if2.false i.2,
+      turn_same (bytes c) _ (place c) _ _ more c.digit-d.ensures c.if-d-eq16.false ∙ i.1,
+      turn_room (bytes c) _ (place c) _ _ more c.digit-d.ensures c.if-d-eq16.false i.2,
     )
 
-returns-3 : tie.Need-returns-3 invariant-loop decreases-loop
-returns-3 c = all_read _ _ _ _ c.loop-test.false ∙ c.before.loop.invariant.1
+returns : tie.Need-returns invariant-loop decreases-loop
+returns c = all_read _ _ _ _ c.loop-left-test.false ∙ c.loop-left.invariant.1
 
-pub hex8-spec : {M : Type 1} → statement M
-hex8-spec =
+pub hex8_spec : {M : Type 1} → statement M
+hex8_spec =
     tie.close
     (tie.spec
     invariant-loop
     decreases-loop
-    loop-holds
-    returns
-    shared-slice-read-digit
-    digit-requires
-    returns-2
-    mul-n
-    add-n
-    add-p
-    sub-left
-    loop-less
-    loop-again
-    returns-3)
+    loop-left-init
+    returns-then-s-p
+    bounds-s-p
+    digit-d-requires
+    returns-then-d-eq16
+    overflow_mul-n
+    overflow_add-n
+    overflow_add-p
+    overflow_sub-left
+    loop-left-smaller
+    loop-left-preserved
+    returns)

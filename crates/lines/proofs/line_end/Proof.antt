@@ -9,47 +9,47 @@ use lib.ListN.{length, get_or}
 use Rattle.lines.proofs.line_end.Statement.{statement}
 use Rattle.lines.proofs.line_end.Tie as tie
 
-abbrev invariant-loop : tie.invariant-loop
+abbrev invariant-loop : tie.invariant-loop-i
 invariant-loop s from i₀ i = (from ≤ i) × (i ≤ max from (length s)) × ((k : ℕ) → k < i → from ≤ k → get_or s k 0 ≡ 10 → ⊥)
 
-abbrev decreases-loop : tie.decreases-loop
+abbrev decreases-loop : tie.decreases-loop-i
 decreases-loop s from i₀ i = length s - i
 
-loop-holds : tie.Need-loop-init invariant-loop decreases-loop
-loop-holds c = search rules
+loop-i-init : tie.Need-loop-i-init invariant-loop decreases-loop
+loop-i-init c = search rules
 
-shared-slice-read-if1 : tie.Need-shared-slice-read-if1 invariant-loop decreases-loop
-shared-slice-read-if1 c = search rules
+bounds-s-i : tie.Need-bounds-s-i invariant-loop decreases-loop
+bounds-s-i c = search rules
+
+returns-then-s-i-eq10 : tie.Need-returns-then-s-i-eq10 invariant-loop decreases-loop
+returns-then-s-i-eq10 c =
+    let i = c.loop-i.invariant in
+    record { after = i.0; within = i.1; clear = i.2; newline = λ h. c.if-s-i-eq10.true }
+
+overflow_add-i : tie.Need-overflow_add-i invariant-loop decreases-loop
+overflow_add-i c = search rules
+
+loop-i-smaller : tie.Need-loop-i-smaller invariant-loop decreases-loop
+loop-i-smaller c = search rules
+
+loop-i-preserved : tie.Need-loop-i-preserved invariant-loop decreases-loop
+loop-i-preserved c = (search rules, search rules, below_more _ _ c.loop-i.invariant.2 (λ l. c.if-s-i-eq10.false))
 
 returns : tie.Need-returns invariant-loop decreases-loop
 returns c =
-    let i = c.before.before.before.loop.invariant in
-    record { after = i.0; within = i.1; clear = i.2; newline = λ h. c.if1.true }
+    let i = c.loop-i.invariant in
+    record { after = i.0; within = i.1; clear = i.2; newline = λ h. absurd (not-le_of_lt h c.loop-i-test.false) }
 
-add-i : tie.Need-overflow-add-i invariant-loop decreases-loop
-add-i c = search rules
-
-loop-less : tie.Need-loop-smaller invariant-loop decreases-loop
-loop-less c = search rules
-
-loop-again : tie.Need-loop-preserved invariant-loop decreases-loop
-loop-again c = (search rules, search rules, below_more _ _ c.before.before.before.loop.invariant.2 (λ l. c.if1.false))
-
-returns-2 : tie.Need-returns-2 invariant-loop decreases-loop
-returns-2 c =
-    let i = c.before.loop.invariant in
-    record { after = i.0; within = i.1; clear = i.2; newline = λ h. absurd (not-le_of_lt h c.loop-test.false) }
-
-pub line-end-spec : {M : Type 1} → statement M
-line-end-spec =
+pub line_end_spec : {M : Type 1} → statement M
+line_end_spec =
     tie.close
     (tie.spec
     invariant-loop
     decreases-loop
-    loop-holds
-    shared-slice-read-if1
-    returns
-    add-i
-    loop-less
-    loop-again
-    returns-2)
+    loop-i-init
+    bounds-s-i
+    returns-then-s-i-eq10
+    overflow_add-i
+    loop-i-smaller
+    loop-i-preserved
+    returns)

@@ -8,51 +8,51 @@ use borrow.Author.Rules.{rules}
 use Rattle.refills.proofs.lines_end.Statement.{statement}
 use Rattle.refills.proofs.lines_end.Tie as tie
 
-abbrev invariant-loop : tie.invariant-loop
+abbrev invariant-loop : tie.invariant-loop-i
 invariant-loop space got i₀ i = i ≤ length space
 
-abbrev decreases-loop : tie.decreases-loop
+abbrev decreases-loop : tie.decreases-loop-i
 decreases-loop space got i₀ i = i
 
+returns-then-got-space : tie.Need-returns-then-got-space invariant-loop decreases-loop
+returns-then-got-space c = let h = c.if-got-space.true in (search rules, sym (length-take-le _ _ (search rules)))
+
+loop-i-init : tie.Need-loop-i-init invariant-loop decreases-loop
+loop-i-init c = search rules
+
+overflow_sub-i : tie.Need-overflow_sub-i invariant-loop decreases-loop
+overflow_sub-i c = search rules
+
+bounds-space-i : tie.Need-bounds-space-i invariant-loop decreases-loop
+bounds-space-i c = search rules
+
+returns-then-space-i-eq10 : tie.Need-returns-then-space-i-eq10 invariant-loop decreases-loop
+returns-then-space-i-eq10 c = (search rules, sym (length-take-le _ _ (search rules)))
+
+overflow_sub-i-in-loop-i : tie.Need-overflow_sub-i-in-loop-i invariant-loop decreases-loop
+overflow_sub-i-in-loop-i c = search rules
+
+loop-i-smaller : tie.Need-loop-i-smaller invariant-loop decreases-loop
+loop-i-smaller c = search rules
+
+loop-i-preserved : tie.Need-loop-i-preserved invariant-loop decreases-loop
+loop-i-preserved c = search rules
+
 returns : tie.Need-returns invariant-loop decreases-loop
-returns c = let h = c.if1.true in (search rules, sym (length-take-le _ _ (search rules)))
+returns c = (search rules, sym (length-take-le _ _ (search rules)))
 
-loop-holds : tie.Need-loop-init invariant-loop decreases-loop
-loop-holds c = search rules
-
-sub-if2 : tie.Need-overflow-sub-if2 invariant-loop decreases-loop
-sub-if2 c = search rules
-
-shared-slice-read-if2 : tie.Need-shared-slice-read-if2 invariant-loop decreases-loop
-shared-slice-read-if2 c = search rules
-
-returns-2 : tie.Need-returns-2 invariant-loop decreases-loop
-returns-2 c = (search rules, sym (length-take-le _ _ (search rules)))
-
-sub-i : tie.Need-overflow-sub-i invariant-loop decreases-loop
-sub-i c = search rules
-
-loop-less : tie.Need-loop-smaller invariant-loop decreases-loop
-loop-less c = search rules
-
-loop-again : tie.Need-loop-preserved invariant-loop decreases-loop
-loop-again c = search rules
-
-returns-3 : tie.Need-returns-3 invariant-loop decreases-loop
-returns-3 c = (search rules, sym (length-take-le _ _ (search rules)))
-
-pub lines-end-spec : {M : Type 1} → statement M
-lines-end-spec =
+pub lines_end_spec : {M : Type 1} → statement M
+lines_end_spec =
     tie.close
     (tie.spec
     invariant-loop
     decreases-loop
-    returns
-    loop-holds
-    sub-if2
-    shared-slice-read-if2
-    returns-2
-    sub-i
-    loop-less
-    loop-again
-    returns-3)
+    returns-then-got-space
+    loop-i-init
+    overflow_sub-i
+    bounds-space-i
+    returns-then-space-i-eq10
+    overflow_sub-i-in-loop-i
+    loop-i-smaller
+    loop-i-preserved
+    returns)

@@ -7,35 +7,35 @@ use borrow.Author.Rules.{rules}
 use Rattle.refills.proofs.move_down.Statement.{statement}
 use Rattle.refills.proofs.move_down.Tie as tie
 
-abbrev invariant-loop : tie.invariant-loop
+abbrev invariant-loop : tie.invariant-loop-i
 invariant-loop space₀ from to₀ i₀ space to i = (to ≤ i) × (length space ≡ length space₀)
 
-abbrev decreases-loop : tie.decreases-loop
+abbrev decreases-loop : tie.decreases-loop-i
 decreases-loop space₀ from to₀ i₀ space to i = length space₀ - i
 
-loop-holds : tie.Need-loop-init invariant-loop decreases-loop
-loop-holds c = search rules
+loop-i-init : tie.Need-loop-i-init invariant-loop decreases-loop
+loop-i-init c = search rules
 
-slice-read-space : tie.Need-slice-read-space invariant-loop decreases-loop
-slice-read-space c = search rules
+bounds-space-i : tie.Need-bounds-space-i invariant-loop decreases-loop
+bounds-space-i c = search rules
 
-slice-write-space : tie.Need-slice-write-space invariant-loop decreases-loop
-slice-write-space c = search rules
+bounds-space-to : tie.Need-bounds-space-to invariant-loop decreases-loop
+bounds-space-to c = search rules
 
-add-to : tie.Need-overflow-add-to invariant-loop decreases-loop
-add-to c = search rules
+overflow_add-to : tie.Need-overflow_add-to invariant-loop decreases-loop
+overflow_add-to c = search rules
 
-add-i : tie.Need-overflow-add-i invariant-loop decreases-loop
-add-i c = search rules
+overflow_add-i : tie.Need-overflow_add-i invariant-loop decreases-loop
+overflow_add-i c = search rules
 
-loop-less : tie.Need-loop-smaller invariant-loop decreases-loop
-loop-less c = search rules
+loop-i-smaller : tie.Need-loop-i-smaller invariant-loop decreases-loop
+loop-i-smaller c = search rules
 
-loop-again : tie.Need-loop-preserved invariant-loop decreases-loop
-loop-again c = search rules
+loop-i-preserved : tie.Need-loop-i-preserved invariant-loop decreases-loop
+loop-i-preserved c = search rules
 
-same_length : tie.Need-same-length invariant-loop decreases-loop
-same_length c = search rules
+shape_of-space : tie.Need-shape_of-space invariant-loop decreases-loop
+shape_of-space c = search rules
 
 returns : tie.Need-returns invariant-loop decreases-loop
 returns c = search rules
@@ -46,12 +46,12 @@ move_down_spec =
     (tie.spec
     invariant-loop
     decreases-loop
-    loop-holds
-    slice-read-space
-    slice-write-space
-    add-to
-    add-i
-    loop-less
-    loop-again
-    same_length
+    loop-i-init
+    bounds-space-i
+    bounds-space-to
+    overflow_add-to
+    overflow_add-i
+    loop-i-smaller
+    loop-i-preserved
+    shape_of-space
     returns)

@@ -10,32 +10,32 @@ use Rattle.root_check.proofs.Cases.{square_fits, too_large, too_small, above_lea
 use Rattle.root_check.proofs.accepts_root.Statement.{statement}
 use Rattle.root_check.proofs.accepts_root.Tie as tie
 
-mul-q : tie.Need-overflow-mul-q
-mul-q c = record { fits = square_fits c.requires.1 }
+overflow_mul-q : tie.Need-overflow_mul-q
+overflow_mul-q c = record { fits = square_fits c.requires.1 }
 
-add-if1 : tie.Need-overflow-add-if1
-add-if1 c = search rules
+overflow_add-n : tie.Need-overflow_add-n
+overflow_add-n c = search rules
 
-returns : tie.Need-returns
-returns c = too_large 24 _ _ (omega (arith, c.if1.true))
+returns-then-n-s : tie.Need-returns-then-n-s
+returns-then-n-s c = too_large 24 _ _ (omega (arith, c.if-n-s.true))
 
-add-if2 : tie.Need-overflow-add-if2
-add-if2 c = search rules
+overflow_add-q : tie.Need-overflow_add-q
+overflow_add-q c = search rules
 
-returns-2 : tie.Need-returns-2
-returns-2 c = too_small 24 _ _ (omega (arith, c.if2.true))
+returns-then-q-s : tie.Need-returns-then-q-s
+returns-then-q-s c = too_small 24 _ _ (omega (arith, c.if-q-s.true))
 
-returns-3 : tie.Need-returns-3
-returns-3 c = above_least 24 _ _ (omega (arith, c.before.before.before.if1.false)) (omega (arith, c.before.before.if2.false)) c.before.if3.true (ltb-true _ _ c.if4.true)
+returns-then-s-lt16777216 : tie.Need-returns-then-s-lt16777216
+returns-then-s-lt16777216 c = above_least 24 _ _ (omega (arith, c.if-n-s.false)) (omega (arith, c.if-q-s.false)) c.if-s-gt8388608.true (ltb-true _ _ c.if-s-lt16777216.true-raw)
 
-returns-4 : tie.Need-returns-4
-returns-4 c = at_least 24 _ _ (lit≤ tt) (omega (arith, c.before.before.before.if1.false)) (omega (arith, c.before.before.if2.false)) c.if5.true
+returns-then-s-eq8388608 : tie.Need-returns-then-s-eq8388608
+returns-then-s-eq8388608 c = at_least 24 _ _ (lit≤ tt) (omega (arith, c.if-n-s.false)) (omega (arith, c.if-q-s.false)) c.if-s-eq8388608.true
 
-returns-5 : tie.Need-returns-5
-returns-5 c =
-    ne_eqb _ 8388608 c.if5.false
-    ∙ out_of_range 24 _ _ (λ l m. ⊎_elim (λ w. lt_irrefl _ (lt_of_lt_of_le m (ltb-false _ _ w.1.left))) (λ w. lt_irrefl _ (lt_of_lt_of_le l w.left)) c.before.if3.branch) c.if5.false
+returns-else-s-eq8388608 : tie.Need-returns-else-s-eq8388608
+returns-else-s-eq8388608 c =
+    ne_eqb _ 8388608 c.if-s-eq8388608.false
+    ∙ out_of_range 24 _ _ (λ l m. ⊎_elim (λ w. lt_irrefl _ (lt_of_lt_of_le m (ltb-false _ _ w.1.left))) (λ w. lt_irrefl _ (lt_of_lt_of_le l w.left)) c.else-s-gt8388608.branch) c.if-s-eq8388608.false
 
-pub accepts-root-spec : {M : Type 1} → statement M
-accepts-root-spec =
-    tie.close (tie.spec mul-q add-if1 returns add-if2 returns-2 returns-3 returns-4 returns-5)
+pub accepts_root_spec : {M : Type 1} → statement M
+accepts_root_spec =
+    tie.close (tie.spec overflow_mul-q overflow_add-n returns-then-n-s overflow_add-q returns-then-q-s returns-then-s-lt16777216 returns-then-s-eq8388608 returns-else-s-eq8388608)

@@ -5,8 +5,8 @@ use lib.ListN.{length-set}
 use Rattle.side_by_side.proofs.put_two.Statement.{statement}
 use Rattle.side_by_side.proofs.put_two.Tie as tie
 
-pub put-two-spec : {M : Type 1} → statement M
-put-two-spec =
+pub put_two_spec : {M : Type 1} → statement M
+put_two_spec =
     tie.close
     (tie.spec
     (λ c. omega arith)

@@ -53,7 +53,7 @@ loop-again c =
     let top = turn.before.before.before.before.before.before.before in
     let m = top.args in
     let sums = c.before.before.before.three-totals in
-    row_put binary32 m.inner (cell m.inner m.a.now) m.b.now m.up (λ i j x. x) sums.result turn.before.loop.invariant turn.loop-test.true top.requires.1 (apart turn.before.before) sums.ensures c.before.before.put_some_lem.ensures
+    row_put binary32 m.inner (cell m.inner m.a.now) m.b.now m.up (λ i j x. x) sums.result turn.before.loop.invariant turn.loop-test.true top.requires.1 (apart turn.before.before) sums.ensures c.before.before.put_some.ensures
 
 pub thin-rows-spec : {M : Type 1} → statement M
 thin-rows-spec =

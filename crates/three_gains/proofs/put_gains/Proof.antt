@@ -48,7 +48,7 @@ loop-again c =
     let before = turn.before.loop.invariant in
     let more = turn.loop-test.true in (
       gain_put m.f.now binary32 m.v c.before.before.before.gain-row.result c.before.before.before.gain-row.ensures before.0 more c.before.before.put-some2.ensures,
-      row_put m.f.now before.1 more c.before.before.before.before.before.before.before.put_some_lem.ensures,
+      row_put m.f.now before.1 more c.before.before.before.before.before.before.before.put_some.ensures,
     )
 
 pub put-gains-spec : {M : Type 1} → statement M

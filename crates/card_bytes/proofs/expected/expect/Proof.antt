@@ -31,7 +31,7 @@ same-length-2 c = search rules
 returns-2 : tie.Need-returns-2
 returns-2 c =
     let a = c.before.before.before.before.before.before.before.before.before.before.before.before.before.before.args in
-    expected a.s.now a.at a.card.now _ c.before.before.before.before.before.before.before.before.before.copy.ensures _ c.before.before.before.before.before.before.word_at.ensures c.before.before.before.before.if1.false _ _ c.before.before.put_all_lem.ensures.0 c.before.before.put_all_lem.ensures.1
+    expected a.s.now a.at a.card.now _ c.before.before.before.before.before.before.before.before.before.copy.ensures _ c.before.before.before.before.before.before.word_at.ensures c.before.before.before.before.if1.false _ _ c.before.before.put_all.ensures.0 c.before.before.put_all.ensures.1
 
 pub expect-spec : {M : Type 1} → statement M
 expect-spec =

@@ -7,44 +7,44 @@ use borrow.Author.Rules.{rules}
 use Rattle.card_edits.proofs.edit.copy.Statement.{statement}
 use Rattle.card_edits.proofs.edit.copy.Tie as tie
 
-abbrev invariant-loop : tie.invariant-loop
+abbrev invariant-loop : tie.invariant-loop-i
 invariant-loop from card₀ at p₀ i₀ card p i = length card ≡ length card₀
 
-abbrev decreases-loop : tie.decreases-loop
+abbrev decreases-loop : tie.decreases-loop-i
 decreases-loop from card₀ at p₀ i₀ card p i = length from - i
 
-loop-holds : tie.Need-loop-init invariant-loop decreases-loop
-loop-holds c = search rules
+loop-i-init : tie.Need-loop-i-init invariant-loop decreases-loop
+loop-i-init c = search rules
 
-same_length : tie.Need-same-length invariant-loop decreases-loop
-same_length c = search rules
+shape_of-card-then-card-p : tie.Need-shape_of-card-then-card-p invariant-loop decreases-loop
+shape_of-card-then-card-p c = search rules
+
+returns-then-card-p : tie.Need-returns-then-card-p invariant-loop decreases-loop
+returns-then-card-p c = search rules
+
+bounds-from-i : tie.Need-bounds-from-i invariant-loop decreases-loop
+bounds-from-i c = search rules
+
+bounds-card-p : tie.Need-bounds-card-p invariant-loop decreases-loop
+bounds-card-p c = search rules
+
+overflow_add-p : tie.Need-overflow_add-p invariant-loop decreases-loop
+overflow_add-p c = search rules
+
+overflow_add-i : tie.Need-overflow_add-i invariant-loop decreases-loop
+overflow_add-i c = search rules
+
+loop-i-smaller : tie.Need-loop-i-smaller invariant-loop decreases-loop
+loop-i-smaller c = search rules
+
+loop-i-preserved : tie.Need-loop-i-preserved invariant-loop decreases-loop
+loop-i-preserved c = search rules
+
+shape_of-card : tie.Need-shape_of-card invariant-loop decreases-loop
+shape_of-card c = search rules
 
 returns : tie.Need-returns invariant-loop decreases-loop
 returns c = search rules
-
-shared-slice-read-card : tie.Need-shared-slice-read-card invariant-loop decreases-loop
-shared-slice-read-card c = search rules
-
-slice-write-card : tie.Need-slice-write-card invariant-loop decreases-loop
-slice-write-card c = search rules
-
-add-p : tie.Need-overflow-add-p invariant-loop decreases-loop
-add-p c = search rules
-
-add-i : tie.Need-overflow-add-i invariant-loop decreases-loop
-add-i c = search rules
-
-loop-less : tie.Need-loop-smaller invariant-loop decreases-loop
-loop-less c = search rules
-
-loop-again : tie.Need-loop-preserved invariant-loop decreases-loop
-loop-again c = search rules
-
-same-length-2 : tie.Need-same-length-2 invariant-loop decreases-loop
-same-length-2 c = search rules
-
-returns-2 : tie.Need-returns-2 invariant-loop decreases-loop
-returns-2 c = search rules
 
 pub copy_spec : {M : Type 1} → statement M
 copy_spec =
@@ -52,14 +52,14 @@ copy_spec =
     (tie.spec
     invariant-loop
     decreases-loop
-    loop-holds
-    same_length
-    returns
-    shared-slice-read-card
-    slice-write-card
-    add-p
-    add-i
-    loop-less
-    loop-again
-    same-length-2
-    returns-2)
+    loop-i-init
+    shape_of-card-then-card-p
+    returns-then-card-p
+    bounds-from-i
+    bounds-card-p
+    overflow_add-p
+    overflow_add-i
+    loop-i-smaller
+    loop-i-preserved
+    shape_of-card
+    returns)

@@ -8,59 +8,59 @@ use borrow.Author.Rules.{rules}
 use Rattle.card_edits.proofs.packed.unpack.Statement.{statement}
 use Rattle.card_edits.proofs.packed.unpack.Tie as tie
 
-abbrev invariant-loop : tie.invariant-loop
+abbrev invariant-loop : tie.invariant-loop-i
 invariant-loop s at len card₀ next₀ bits₀ i₀ card next bits i = length card ≡ length card₀
 
-abbrev decreases-loop : tie.decreases-loop
+abbrev decreases-loop : tie.decreases-loop-i
 decreases-loop s at len card₀ next₀ bits₀ i₀ card next bits i = len - i
+
+returns-then-card-len : tie.Need-returns-then-card-len invariant-loop decreases-loop
+returns-then-card-len c = search rules
+
+loop-i-init : tie.Need-loop-i-init invariant-loop decreases-loop
+loop-i-init c = search rules
+
+word_at-w-requires : tie.Need-word_at-w-requires invariant-loop decreases-loop
+word_at-w-requires c κs = search rules
+
+overflow_cast-card : tie.Need-overflow_cast-card invariant-loop decreases-loop
+overflow_cast-card c = omega arith
+
+bounds-card-i : tie.Need-bounds-card-i invariant-loop decreases-loop
+bounds-card-i c = search rules
+
+overflow_mul-bits : tie.Need-overflow_mul-bits invariant-loop decreases-loop
+overflow_mul-bits c = omega arith
+
+overflow_add-i : tie.Need-overflow_add-i invariant-loop decreases-loop
+overflow_add-i c = search rules
+
+loop-i-smaller : tie.Need-loop-i-smaller invariant-loop decreases-loop
+loop-i-smaller c = search rules
+
+loop-i-preserved : tie.Need-loop-i-preserved invariant-loop decreases-loop
+loop-i-preserved c = search rules
+
+shape_of-card : tie.Need-shape_of-card invariant-loop decreases-loop
+shape_of-card c = search rules
 
 returns : tie.Need-returns invariant-loop decreases-loop
 returns c = search rules
 
-loop-holds : tie.Need-loop-init invariant-loop decreases-loop
-loop-holds c = search rules
-
-word-at-requires : tie.Need-word-at-requires invariant-loop decreases-loop
-word-at-requires c κs = search rules
-
-cast-card : tie.Need-overflow-cast-card invariant-loop decreases-loop
-cast-card c = omega arith
-
-slice-write-card : tie.Need-slice-write-card invariant-loop decreases-loop
-slice-write-card c = search rules
-
-mul-bits : tie.Need-overflow-mul-bits invariant-loop decreases-loop
-mul-bits c = omega arith
-
-add-i : tie.Need-overflow-add-i invariant-loop decreases-loop
-add-i c = search rules
-
-loop-less : tie.Need-loop-smaller invariant-loop decreases-loop
-loop-less c = search rules
-
-loop-again : tie.Need-loop-preserved invariant-loop decreases-loop
-loop-again c = search rules
-
-same_length : tie.Need-same-length invariant-loop decreases-loop
-same_length c = search rules
-
-returns-2 : tie.Need-returns-2 invariant-loop decreases-loop
-returns-2 c = search rules
-
-pub unpack-spec : {M : Type 1} → statement M
-unpack-spec =
+pub unpack_spec : {M : Type 1} → statement M
+unpack_spec =
     tie.close
     (tie.spec
     invariant-loop
     decreases-loop
-    returns
-    loop-holds
-    word-at-requires
-    cast-card
-    slice-write-card
-    mul-bits
-    add-i
-    loop-less
-    loop-again
-    same_length
-    returns-2)
+    returns-then-card-len
+    loop-i-init
+    word_at-w-requires
+    overflow_cast-card
+    bounds-card-i
+    overflow_mul-bits
+    overflow_add-i
+    loop-i-smaller
+    loop-i-preserved
+    shape_of-card
+    returns)

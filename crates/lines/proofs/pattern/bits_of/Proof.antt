@@ -4,14 +4,14 @@ use Rattle.lines.proofs.Nan.{nan_differs, number_same, no_nan, bits_of_nan, bits
 use Rattle.lines.proofs.pattern.bits_of.Statement.{statement}
 use Rattle.lines.proofs.pattern.bits_of.Tie as tie
 
-float-to-bits-result : tie.Need-float-to-bits-result
-float-to-bits-result c = no_nan _ (number_same _ c.if1.false)
+float_to_bits-result : tie.Need-float_to_bits-result
+float_to_bits-result c = no_nan _ (number_same _ c.if-x.false)
 
-returns : tie.Need-returns
-returns c = bits_of_nan _ (nan_differs _ c.if1.true)
+returns-then-x : tie.Need-returns-then-x
+returns-then-x c = bits_of_nan _ (nan_differs _ c.if-x.true)
 
-returns-2 : tie.Need-returns-2
-returns-2 c = bits_of_number _ (number_same _ c.if1.false)
+returns-else-x : tie.Need-returns-else-x
+returns-else-x c = bits_of_number _ (number_same _ c.if-x.false)
 
-pub bits-of-spec : {M : Type 1} → statement M
-bits-of-spec = tie.close (tie.spec float-to-bits-result returns returns-2)
+pub bits_of_spec : {M : Type 1} → statement M
+bits_of_spec = tie.close (tie.spec float_to_bits-result returns-then-x returns-else-x)

@@ -6,17 +6,17 @@ use borrow.Author.Rules.{rules}
 use Rattle.lines.proofs.pattern.float_of.Statement.{statement}
 use Rattle.lines.proofs.pattern.float_of.Tie as tie
 
-is-nan-requires : tie.Need-is-nan-requires
-is-nan-requires c κs = search rules
+is_nan-requires : tie.Need-is_nan-requires
+is_nan-requires c κs = search rules
 
-float-from-bits-result : tie.Need-float-from-bits-result
-float-from-bits-result c = no_nan _ (sym c.before.is-nan.ensures ∙ c.if1.false)
+float_from_bits-result : tie.Need-float_from_bits-result
+float_from_bits-result c = no_nan _ (sym c.is_nan.ensures ∙ c.if-is_nan.false)
 
-returns : tie.Need-returns
-returns c = nan_of _ (sym c.before.is-nan.ensures ∙ c.if1.true)
+returns-then-is_nan : tie.Need-returns-then-is_nan
+returns-then-is_nan c = nan_of _ (sym c.is_nan.ensures ∙ c.if-is_nan.true)
 
-returns-2 : tie.Need-returns-2
-returns-2 c = search rules
+returns-else-is_nan : tie.Need-returns-else-is_nan
+returns-else-is_nan c = search rules
 
-pub float-of-spec : {M : Type 1} → statement M
-float-of-spec = tie.close (tie.spec is-nan-requires float-from-bits-result returns returns-2)
+pub float_of_spec : {M : Type 1} → statement M
+float_of_spec = tie.close (tie.spec is_nan-requires float_from_bits-result returns-then-is_nan returns-else-is_nan)

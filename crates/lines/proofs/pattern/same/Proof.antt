@@ -6,17 +6,17 @@ use borrow.Author.Rules.{rules}
 use Rattle.lines.proofs.pattern.same.Statement.{statement}
 use Rattle.lines.proofs.pattern.same.Tie as tie
 
-is-nan-requires : tie.Need-is-nan-requires
-is-nan-requires c κs = search rules
+is_nan-requires : tie.Need-is_nan-requires
+is_nan-requires c κs = search rules
 
-is-nan-requires-2 : tie.Need-is-nan-requires-2
-is-nan-requires-2 c κs = search rules
+is_nan-requires-then-is_nan : tie.Need-is_nan-requires-then-is_nan
+is_nan-requires-then-is_nan c κs = search rules
 
-returns : tie.Need-returns
-returns c = c.is-nan2.ensures ∙ same_nan _ _ (sym c.before.before.is-nan.ensures ∙ c.before.if1.true)
+returns-then-is_nan : tie.Need-returns-then-is_nan
+returns-then-is_nan c = c.is_nan-then-is_nan.ensures ∙ same_nan _ _ (sym c.is_nan.ensures ∙ c.if-is_nan.true)
 
-returns-2 : tie.Need-returns-2
-returns-2 c = same_number _ _ (sym c.before.is-nan.ensures ∙ c.if1.false)
+returns-else-is_nan : tie.Need-returns-else-is_nan
+returns-else-is_nan c = same_number _ _ (sym c.is_nan.ensures ∙ c.if-is_nan.false)
 
 pub same_spec : {M : Type 1} → statement M
-same_spec = tie.close (tie.spec is-nan-requires is-nan-requires-2 returns returns-2)
+same_spec = tie.close (tie.spec is_nan-requires is_nan-requires-then-is_nan returns-then-is_nan returns-else-is_nan)

@@ -7,39 +7,39 @@ use borrow.Author.Rules.{rules}
 use Rattle.lines.proofs.words.word_at.Statement.{statement}
 use Rattle.lines.proofs.words.word_at.Tie as tie
 
-byte-at-requires : tie.Need-byte-at-requires
-byte-at-requires c κs = search rules
+byte_at-requires : tie.Need-byte_at-requires
+byte_at-requires c κs = search rules
 
-returns : tie.Need-returns
-returns c = no_space c.before.before.before.args.s.now _ (λ h. c.if1.true (c.before.byte_at.ensures ∙ h))
+returns-then-byte_at-ne32 : tie.Need-returns-then-byte_at-ne32
+returns-then-byte_at-ne32 c = no_space c.args.s.now _ (λ h. c.if-byte_at-ne32.true (c.byte_at.ensures ∙ h))
 
-add-hex8 : tie.Need-overflow-add-hex8
-add-hex8 c = let h = held c.before.before.before.args.s.now _ (sym c.before.byte_at.ensures ∙ c.if1.false) in omega arith
+overflow_add-at : tie.Need-overflow_add-at
+overflow_add-at c = let h = held c.args.s.now _ (sym c.byte_at.ensures ∙ c.if-byte_at-ne32.false) in omega arith
 
 hex8-requires : tie.Need-hex8-requires
 hex8-requires c κs = search rules
 
-enum-known-bits : tie.Need-enum-known-bits
-enum-known-bits c = search rules
+enum_known-bits : tie.Need-enum_known-bits
+enum_known-bits c = search rules
 
-enum_told : tie.Need-enum-told
-enum_told c = search rules
+enum_told-1 : tie.Need-enum_told-1
+enum_told-1 c = search rules
 
-returns-2 : tie.Need-returns-2
-returns-2 c = digits c.before.before.before.before.before.before.before.args.s.now _ (sym c.before.before.before.before.before.byte_at.ensures ∙ c.before.before.before.before.if1.false) _ _ (sym c.before.before.before.hex8.ensures ∙ c.before.bits.given.1)
+returns-in-Number : tie.Need-returns-in-Number
+returns-in-Number c = digits c.args.s.now _ (sym c.byte_at.ensures ∙ c.if-byte_at-ne32.false) _ _ (sym c.hex8.ensures ∙ c.in-Number.is)
 
-returns-3 : tie.Need-returns-3
-returns-3 c = no_digits c.before.before.before.before.before.before.args.s.now _ (sym c.before.before.before.before.byte_at.ensures ∙ c.before.before.before.if1.false) (sym c.before.before.hex8.ensures ∙ c.enum_told.given.1)
+returns-in-Bad : tie.Need-returns-in-Bad
+returns-in-Bad c = no_digits c.args.s.now _ (sym c.byte_at.ensures ∙ c.if-byte_at-ne32.false) (sym c.hex8.ensures ∙ c.in-Bad.is)
 
-pub word-at-spec : {M : Type 1} → statement M
-word-at-spec =
+pub word_at_spec : {M : Type 1} → statement M
+word_at_spec =
     tie.close
     (tie.spec
-    byte-at-requires
-    returns
-    add-hex8
+    byte_at-requires
+    returns-then-byte_at-ne32
+    overflow_add-at
     hex8-requires
-    enum-known-bits
-    enum_told
-    returns-2
-    returns-3)
+    enum_known-bits
+    enum_told-1
+    returns-in-Number
+    returns-in-Bad)

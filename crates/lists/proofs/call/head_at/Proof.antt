@@ -5,41 +5,41 @@ use borrow.Author.Rules.{rules}
 use Rattle.lists.proofs.call.head_at.Statement.{statement}
 use Rattle.lists.proofs.call.head_at.Tie as tie
 
-whole-at-requires : tie.Need-whole-at-requires
-whole-at-requires c κs = search rules
+whole_at-first-requires : tie.Need-whole_at-first-requires
+whole_at-first-requires c κs = search rules
 
-whole-at-requires-2 : tie.Need-whole-at-requires-2
-whole-at-requires-2 c κs = search rules
+whole_at-second-requires : tie.Need-whole_at-second-requires
+whole_at-second-requires c κs = search rules
 
-whole-at-requires-3 : tie.Need-whole-at-requires-3
-whole-at-requires-3 c κs = search rules
+whole_at-third-requires : tie.Need-whole_at-third-requires
+whole_at-third-requires c κs = search rules
 
-whole-at-requires-4 : tie.Need-whole-at-requires-4
-whole-at-requires-4 c κs = search rules
+whole_at-row-requires : tie.Need-whole_at-row-requires
+whole_at-row-requires c κs = search rules
 
-whole-at-requires-5 : tie.Need-whole-at-requires-5
-whole-at-requires-5 c κs = search rules
+whole_at-column-requires : tie.Need-whole_at-column-requires
+whole_at-column-requires c κs = search rules
 
-real-at-requires : tie.Need-real-at-requires
-real-at-requires c κs = search rules
+real_at-u-requires : tie.Need-real_at-u-requires
+real_at-u-requires c κs = search rules
 
-real-at-requires-2 : tie.Need-real-at-requires-2
-real-at-requires-2 c κs = search rules
+real_at-v-requires : tie.Need-real_at-v-requires
+real_at-v-requires c κs = search rules
 
 returns : tie.Need-returns
 returns c =
-    let a = c.before.before.before.before.before.before.before.before.before.before.before.before.before.args in
-    heads a.s.now a.at a.h _ _ _ _ _ _ _ c.before.before.before.before.before.before.before.before.before.before.whole-at.ensures c.before.before.before.before.before.before.before.before.whole-at2.ensures c.before.before.before.before.before.before.whole-at3.ensures c.before.before.before.before.before.whole-at4.ensures c.before.before.before.before.whole-at5.ensures c.before.before.real-at.ensures c.real-at2.ensures
+    let a = c.args in
+    heads a.s.now a.at a.h _ _ _ _ _ _ _ c.whole_at-first.ensures c.whole_at-second.ensures c.whole_at-third.ensures c.whole_at-row.ensures c.whole_at-column.ensures c.real_at-u.ensures c.real_at-v.ensures
 
-pub head-at-spec : {M : Type 1} → statement M
-head-at-spec =
+pub head_at_spec : {M : Type 1} → statement M
+head_at_spec =
     tie.close
     (tie.spec
-    whole-at-requires
-    whole-at-requires-2
-    whole-at-requires-3
-    whole-at-requires-4
-    whole-at-requires-5
-    real-at-requires
-    real-at-requires-2
+    whole_at-first-requires
+    whole_at-second-requires
+    whole_at-third-requires
+    whole_at-row-requires
+    whole_at-column-requires
+    real_at-u-requires
+    real_at-v-requires
     returns)

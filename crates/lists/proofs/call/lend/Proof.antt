@@ -8,28 +8,28 @@ use Rattle.lists.proofs.call.lend.Tie as tie
 none-requires : tie.Need-none-requires
 none-requires c κs = search rules
 
-returns : tie.Need-returns
-returns c =
-    let a = c.before.before.before.args in
+returns-then-not-wanted : tie.Need-returns-then-not-wanted
+returns-then-not-wanted c =
+    let a = c.args in
     let e = c.none.ensures in
-    (e.0, e.1, no_buffer a.s.now a.at a.wanted c.before.if1.true _ e.2)
+    (e.0, e.1, no_buffer a.s.now a.at a.wanted c.if-not-wanted.true-raw _ e.2)
 
-word-at-requires : tie.Need-word-at-requires
-word-at-requires c κs = search rules
+word_at-w-requires : tie.Need-word_at-w-requires
+word_at-w-requires c κs = search rules
 
-cast-numbers : tie.Need-overflow-cast-numbers
-cast-numbers c = search rules
+overflow_cast-w : tie.Need-overflow_cast-w
+overflow_cast-w c = search rules
 
 numbers-requires : tie.Need-numbers-requires
 numbers-requires c κs = search rules
 
-returns-2 : tie.Need-returns-2
-returns-2 c =
-    let a = c.before.before.before.before.before.args in
+returns : tie.Need-returns
+returns c =
+    let a = c.args in
     let e = c.numbers.ensures in
-    (e.0, e.1, buffer a.s.now a.at a.wanted c.before.before.before.if1.false _ c.before.before.word_at.ensures _ e.2)
+    (e.0, e.1, buffer a.s.now a.at a.wanted c.if-not-wanted.false-raw _ c.word_at-w.ensures _ e.2)
 
 pub lend_spec : {M : Type 1} → statement M
 lend_spec =
     tie.close
-    (tie.spec none-requires returns word-at-requires cast-numbers numbers-requires returns-2)
+    (tie.spec none-requires returns-then-not-wanted word_at-w-requires overflow_cast-w numbers-requires returns)

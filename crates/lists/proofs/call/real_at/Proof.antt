@@ -5,20 +5,20 @@ use borrow.Author.Rules.{rules}
 use Rattle.lists.proofs.call.real_at.Statement.{statement}
 use Rattle.lists.proofs.call.real_at.Tie as tie
 
+returns-then-not-wanted : tie.Need-returns-then-not-wanted
+returns-then-not-wanted c =
+    let a = c.args in no_real a.s.now a.at a.wanted c.if-not-wanted.true-raw
+
+word_at-w-requires : tie.Need-word_at-w-requires
+word_at-w-requires c κs = search rules
+
+float_of-requires : tie.Need-float_of-requires
+float_of-requires c κs = search rules
+
 returns : tie.Need-returns
 returns c =
-    let a = c.before.before.args in no_real a.s.now a.at a.wanted c.if1.true
+    let a = c.args in
+    real a.s.now a.at a.wanted c.if-not-wanted.false-raw _ c.word_at-w.ensures _ c.float_of.ensures
 
-word-at-requires : tie.Need-word-at-requires
-word-at-requires c κs = search rules
-
-float-of-requires : tie.Need-float-of-requires
-float-of-requires c κs = search rules
-
-returns-2 : tie.Need-returns-2
-returns-2 c =
-    let a = c.before.before.before.before.args in
-    real a.s.now a.at a.wanted c.before.before.if1.false _ c.before.word_at.ensures _ c.float_of.ensures
-
-pub real-at-spec : {M : Type 1} → statement M
-real-at-spec = tie.close (tie.spec returns word-at-requires float-of-requires returns-2)
+pub real_at_spec : {M : Type 1} → statement M
+real_at_spec = tie.close (tie.spec returns-then-not-wanted word_at-w-requires float_of-requires returns)

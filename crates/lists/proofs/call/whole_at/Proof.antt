@@ -5,25 +5,25 @@ use borrow.Author.Rules.{rules}
 use Rattle.lists.proofs.call.whole_at.Statement.{statement}
 use Rattle.lists.proofs.call.whole_at.Tie as tie
 
+returns-then-not-wanted : tie.Need-returns-then-not-wanted
+returns-then-not-wanted c =
+    let a = c.args in no_whole a.s.now a.at a.wanted c.if-not-wanted.true-raw
+
+word_at-w-requires : tie.Need-word_at-w-requires
+word_at-w-requires c κs = search rules
+
+returns-then-w : tie.Need-returns-then-w
+returns-then-w c =
+    let a = c.args in
+    largest a.s.now a.at a.wanted c.if-not-wanted.false-raw _ c.word_at-w.ensures c.if-w.true
+
+overflow_cast-result : tie.Need-overflow_cast-result
+overflow_cast-result c = search rules
+
 returns : tie.Need-returns
 returns c =
-    let a = c.before.before.args in no_whole a.s.now a.at a.wanted c.if1.true
+    let a = c.args in
+    itself a.s.now a.at a.wanted c.if-not-wanted.false-raw _ c.word_at-w.ensures c.if-w.false
 
-word-at-requires : tie.Need-word-at-requires
-word-at-requires c κs = search rules
-
-returns-2 : tie.Need-returns-2
-returns-2 c =
-    let a = c.before.before.before.before.before.args in
-    largest a.s.now a.at a.wanted c.before.before.before.if1.false _ c.before.before.word_at.ensures c.if2.true
-
-cast-t6 : tie.Need-overflow-cast-t6
-cast-t6 c = search rules
-
-returns-3 : tie.Need-returns-3
-returns-3 c =
-    let a = c.before.before.before.before.before.before.args in
-    itself a.s.now a.at a.wanted c.before.before.before.before.if1.false _ c.before.before.before.word_at.ensures c.before.if2.false
-
-pub whole-at-spec : {M : Type 1} → statement M
-whole-at-spec = tie.close (tie.spec returns word-at-requires returns-2 cast-t6 returns-3)
+pub whole_at_spec : {M : Type 1} → statement M
+whole_at_spec = tie.close (tie.spec returns-then-not-wanted word_at-w-requires returns-then-w overflow_cast-result returns)

@@ -8,30 +8,30 @@ use Rattle.lists.proofs.seen.answer_met.Tie as tie
 nothing-requires : tie.Need-nothing-requires
 nothing-requires c κs = search rules
 
-number-of-requires : tie.Need-number-of-requires
-number-of-requires c κs = search rules
+number_of-requires : tie.Need-number_of-requires
+number_of-requires c κs = search rules
 
-whole-met-requires : tie.Need-whole-met-requires
-whole-met-requires c κs = search rules
+whole_met-o-requires : tie.Need-whole_met-o-requires
+whole_met-o-requires c κs = search rules
 
-carried-by-requires : tie.Need-carried-by-requires
-carried-by-requires c κs = search rules
+carried_by-requires : tie.Need-carried_by-requires
+carried_by-requires c κs = search rules
 
-whole-met-requires-2 : tie.Need-whole-met-requires-2
-whole-met-requires-2 c κs = search rules
+whole_met-requires : tie.Need-whole_met-requires
+whole_met-requires c κs = search rules
 
 returns : tie.Need-returns
 returns c =
-    let a = c.before.before.before.before.before.before.args in
-    answer_is a.s.now a.at a.v _ _ _ _ _ c.before.before.before.before.nothing.ensures c.before.before.before.number_of_lem.ensures c.before.before.whole-met.ensures c.before.carried-by.ensures c.whole-met2.ensures
+    let a = c.args in
+    answer_is a.s.now a.at a.v _ _ _ _ _ c.nothing.ensures c.number_of.ensures c.whole_met-o.ensures c.carried_by.ensures c.whole_met.ensures
 
-pub answer-met-spec : {M : Type 1} → statement M
-answer-met-spec =
+pub answer_met_spec : {M : Type 1} → statement M
+answer_met_spec =
     tie.close
     (tie.spec
     nothing-requires
-    number-of-requires
-    whole-met-requires
-    carried-by-requires
-    whole-met-requires-2
+    number_of-requires
+    whole_met-o-requires
+    carried_by-requires
+    whole_met-requires
     returns)

@@ -8,34 +8,34 @@ use borrow.Author.Rules.{rules}
 use Rattle.lists.proofs.seen.buffer_met.Statement.{statement}
 use Rattle.lists.proofs.seen.buffer_met.Tie as tie
 
-returns : tie.Need-returns
-returns c =
-    let a = c.before.before.args in no_buffer a.s.now a.o a.buffer a.cells.now a.len a.wanted c.if1.true
+returns-then-not-wanted : tie.Need-returns-then-not-wanted
+returns-then-not-wanted c =
+    let a = c.args in no_buffer a.s.now a.o a.buffer a.cells.now a.len a.wanted c.if-not-wanted.true-raw
 
-word-at-requires : tie.Need-word-at-requires
-word-at-requires c κs = search rules
+word_at-w-requires : tie.Need-word_at-w-requires
+word_at-w-requires c κs = search rules
 
-cast-if2 : tie.Need-overflow-cast-if2
-cast-if2 c = search rules
+overflow_cast-w : tie.Need-overflow_cast-w
+overflow_cast-w c = search rules
 
-returns-2 : tie.Need-returns-2
-returns-2 c =
-    let a = c.before.before.before.before.before.args in
-    let some = c.before.before.before.if1.false in
-    let read = c.before.before.word_at.ensures in
+returns-then-w-len : tie.Need-returns-then-w-len
+returns-then-w-len c =
+    let a = c.args in
+    let some = c.if-not-wanted.false-raw in
+    let read = c.word_at-w.ensures in
     ⊎_elim
     (λ w. other_length a.s.now a.o a.buffer a.cells.now a.len a.wanted some _ read (λ e. omega arith))
     (λ w. too_long a.s.now a.o a.buffer a.cells.now a.len a.wanted some _ read (ltb-true 304 _ w.1.taken))
-    c.if2.branch
+    c.then-w-len.branch
 
-cells-met-requires : tie.Need-cells-met-requires
-cells-met-requires c κs = search rules
+cells_met-requires : tie.Need-cells_met-requires
+cells_met-requires c κs = search rules
 
-returns-3 : tie.Need-returns-3
-returns-3 c =
-    let a = c.before.before.before.before.before.before.before.args in
-    buffer a.s.now a.o a.buffer a.cells.now a.len a.wanted c.before.before.before.before.before.if1.false _ c.before.before.before.before.word_at.ensures c.before.before.if2.false (ltb-false 304 _ c.before.if3.false) _ c.cells-met.ensures
+returns : tie.Need-returns
+returns c =
+    let a = c.args in
+    buffer a.s.now a.o a.buffer a.cells.now a.len a.wanted c.if-not-wanted.false-raw _ c.word_at-w.ensures c.if-w-len.false (ltb-false 304 _ c.if-len-gt304.false-raw) _ c.cells_met.ensures
 
-pub buffer-met-spec : {M : Type 1} → statement M
-buffer-met-spec =
-    tie.close (tie.spec returns word-at-requires cast-if2 returns-2 cells-met-requires returns-3)
+pub buffer_met_spec : {M : Type 1} → statement M
+buffer_met_spec =
+    tie.close (tie.spec returns-then-not-wanted word_at-w-requires overflow_cast-w returns-then-w-len cells_met-requires returns)

@@ -8,47 +8,47 @@ use borrow.Author.Rules.{rules}
 use Rattle.lists.proofs.seen.cells_met.Statement.{statement}
 use Rattle.lists.proofs.seen.cells_met.Tie as tie
 
-abbrev invariant-loop : tie.invariant-loop
+abbrev invariant-loop : tie.invariant-loop-i
 invariant-loop s buffer cells len more₀ i₀ more i = (i ≤ len) × (more ≡ cells_met s more₀ buffer cells i)
 
-abbrev decreases-loop : tie.decreases-loop
+abbrev decreases-loop : tie.decreases-loop-i
 decreases-loop s buffer cells len more₀ i₀ more i = len - i
 
-loop-holds : tie.Need-loop-init invariant-loop decreases-loop
-loop-holds c = (search rules, no_cell _ _ _ _)
+loop-i-init : tie.Need-loop-i-init invariant-loop decreases-loop
+loop-i-init c = (search rules, no_cell _ _ _ _)
 
-mul-float-met : tie.Need-overflow-mul-float-met invariant-loop decreases-loop
-mul-float-met c = search rules
+offset_bounds-cells-i : tie.Need-offset_bounds-cells-i invariant-loop decreases-loop
+offset_bounds-cells-i c = search rules
 
-element-copy-out-float-met : tie.Need-element-copy-out-float-met invariant-loop decreases-loop
-element-copy-out-float-met c = search rules
+bounds-cells-i : tie.Need-bounds-cells-i invariant-loop decreases-loop
+bounds-cells-i c = search rules
 
-float-met-requires : tie.Need-float-met-requires invariant-loop decreases-loop
-float-met-requires c κs = search rules
+float_met-more-requires : tie.Need-float_met-more-requires invariant-loop decreases-loop
+float_met-more-requires c κs = search rules
 
-add-i : tie.Need-overflow-add-i invariant-loop decreases-loop
-add-i c = search rules
+overflow_add-i : tie.Need-overflow_add-i invariant-loop decreases-loop
+overflow_add-i c = search rules
 
-loop-less : tie.Need-loop-smaller invariant-loop decreases-loop
-loop-less c = search rules
+loop-i-smaller : tie.Need-loop-i-smaller invariant-loop decreases-loop
+loop-i-smaller c = search rules
 
-loop-again : tie.Need-loop-preserved invariant-loop decreases-loop
-loop-again c = (search rules, one_cell _ _ _ _ _ _ _ c.before.before.before.loop.invariant.1 c.float-met.ensures)
+loop-i-preserved : tie.Need-loop-i-preserved invariant-loop decreases-loop
+loop-i-preserved c = (search rules, one_cell _ _ _ _ _ _ _ c.loop-i.invariant.1 c.float_met-more.ensures)
 
 returns : tie.Need-returns invariant-loop decreases-loop
-returns c = all_cells _ _ _ _ _ _ _ c.before.loop.invariant.0 c.loop-test.false c.before.loop.invariant.1
+returns c = all_cells _ _ _ _ _ _ _ c.loop-i.invariant.0 c.loop-i-test.false c.loop-i.invariant.1
 
-pub cells-met-spec : {M : Type 1} → statement M
-cells-met-spec =
+pub cells_met_spec : {M : Type 1} → statement M
+cells_met_spec =
     tie.close
     (tie.spec
     invariant-loop
     decreases-loop
-    loop-holds
-    mul-float-met
-    element-copy-out-float-met
-    float-met-requires
-    add-i
-    loop-less
-    loop-again
+    loop-i-init
+    offset_bounds-cells-i
+    bounds-cells-i
+    float_met-more-requires
+    overflow_add-i
+    loop-i-smaller
+    loop-i-preserved
     returns)

@@ -5,11 +5,11 @@ use borrow.Author.Rules.{rules}
 use Rattle.lists.proofs.seen.float_met.Statement.{statement}
 use Rattle.lists.proofs.seen.float_met.Tie as tie
 
-word-at-requires : tie.Need-word-at-requires
-word-at-requires c κs = search rules
+word_at-w-requires : tie.Need-word_at-w-requires
+word_at-w-requires c κs = search rules
 
-bits-of-requires : tie.Need-bits-of-requires
-bits-of-requires c κs = search rules
+bits_of-found-requires : tie.Need-bits_of-found-requires
+bits_of-found-requires c κs = search rules
 
 same-requires : tie.Need-same-requires
 same-requires c κs = search rules
@@ -19,9 +19,9 @@ met-requires c κs = search rules
 
 returns : tie.Need-returns
 returns c =
-    let a = c.before.before.before.before.before.args in
-    float_is a.s.now a.o _ _ _ c.before.before.before.word_at.ensures _ _ a.x _ c.before.before.bits-of.ensures c.before.same.ensures c.met.ensures
+    let a = c.args in
+    float_is a.s.now a.o _ _ _ c.word_at-w.ensures _ _ a.x _ c.bits_of-found.ensures c.same.ensures c.met.ensures
 
-pub float-met-spec : {M : Type 1} → statement M
-float-met-spec =
-    tie.close (tie.spec word-at-requires bits-of-requires same-requires met-requires returns)
+pub float_met_spec : {M : Type 1} → statement M
+float_met_spec =
+    tie.close (tie.spec word_at-w-requires bits_of-found-requires same-requires met-requires returns)

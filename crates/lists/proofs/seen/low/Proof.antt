@@ -5,14 +5,14 @@ use borrow.Author.Rules.{rules}
 use Rattle.lists.proofs.seen.low.Statement.{statement}
 use Rattle.lists.proofs.seen.low.Tie as tie
 
-cast-result : tie.Need-overflow-cast-result
-cast-result c = search rules
+overflow_cast-result : tie.Need-overflow_cast-result
+overflow_cast-result c = search rules
 
-returns : tie.Need-returns
-returns c = low_itself _ c.if1.true
+returns-then-n-lt4294967296 : tie.Need-returns-then-n-lt4294967296
+returns-then-n-lt4294967296 c = low_itself _ c.if-n-lt4294967296.true
 
-returns-2 : tie.Need-returns-2
-returns-2 c = low_largest _ c.if1.false
+returns-else-n-lt4294967296 : tie.Need-returns-else-n-lt4294967296
+returns-else-n-lt4294967296 c = low_largest _ c.if-n-lt4294967296.false
 
-pub low-spec : {M : Type 1} → statement M
-low-spec = tie.close (tie.spec cast-result returns returns-2)
+pub low_spec : {M : Type 1} → statement M
+low_spec = tie.close (tie.spec overflow_cast-result returns-then-n-lt4294967296 returns-else-n-lt4294967296)

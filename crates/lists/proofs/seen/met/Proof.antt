@@ -5,26 +5,26 @@ use borrow.Author.Rules.{rules}
 use Rattle.lists.proofs.seen.met.Statement.{statement}
 use Rattle.lists.proofs.seen.met.Tie as tie
 
-one-more-requires : tie.Need-one-more-requires
-one-more-requires c κs = search rules
+one_more-requires : tie.Need-one_more-requires
+one_more-requires c κs = search rules
 
-returns : tie.Need-returns
-returns c =
-    let a = c.before.before.args in
-    met_same a.o a.next a.buffer a.index a.want a.found _ _ c.before.one_more.ensures c.if1.true
+returns-then-same : tie.Need-returns-then-same
+returns-then-same c =
+    let a = c.args in
+    met_same a.o a.next a.buffer a.index a.want a.found _ _ c.one_more.ensures c.if-same.true
 
-one-more-requires-2 : tie.Need-one-more-requires-2
-one-more-requires-2 c κs = search rules
+one_more-requires-2 : tie.Need-one_more-requires-2
+one_more-requires-2 c κs = search rules
 
-returns-2 : tie.Need-returns-2
-returns-2 c =
-    let a = c.before.before.before.before.before.args in
-    met_first a.o a.next a.buffer a.index a.want a.found _ _ c.before.before.before.before.one_more.ensures c.before.before.before.if1.false _ c.before.before.one-more2.ensures c.if2.true
+returns-then-o-eq0 : tie.Need-returns-then-o-eq0
+returns-then-o-eq0 c =
+    let a = c.args in
+    met_first a.o a.next a.buffer a.index a.want a.found _ _ c.one_more.ensures c.if-same.false _ c.one_more-2.ensures c.if-o-eq0.true
 
-returns-3 : tie.Need-returns-3
-returns-3 c =
-    let a = c.before.before.before.before.before.args in
-    met_later a.o a.next a.buffer a.index a.want a.found _ _ c.before.before.before.before.one_more.ensures c.before.before.before.if1.false _ c.before.before.one-more2.ensures c.if2.false
+returns-else-o-eq0 : tie.Need-returns-else-o-eq0
+returns-else-o-eq0 c =
+    let a = c.args in
+    met_later a.o a.next a.buffer a.index a.want a.found _ _ c.one_more.ensures c.if-same.false _ c.one_more-2.ensures c.if-o-eq0.false
 
-pub met-spec : {M : Type 1} → statement M
-met-spec = tie.close (tie.spec one-more-requires returns one-more-requires-2 returns-2 returns-3)
+pub met_spec : {M : Type 1} → statement M
+met_spec = tie.close (tie.spec one_more-requires returns-then-same one_more-requires-2 returns-then-o-eq0 returns-else-o-eq0)

@@ -5,14 +5,14 @@ use borrow.Author.Rules.{rules}
 use Rattle.lists.proofs.seen.one_more.Statement.{statement}
 use Rattle.lists.proofs.seen.one_more.Tie as tie
 
-add-result : tie.Need-overflow-add-result
-add-result c = search rules
+overflow_add-result : tie.Need-overflow_add-result
+overflow_add-result c = search rules
 
-returns : tie.Need-returns
-returns c = one_more _ c.if1.true
+returns-then-n-lt18446744073709551615 : tie.Need-returns-then-n-lt18446744073709551615
+returns-then-n-lt18446744073709551615 c = one_more _ c.if-n-lt18446744073709551615.true
 
-returns-2 : tie.Need-returns-2
-returns-2 c = no_more _ c.if1.false
+returns-else-n-lt18446744073709551615 : tie.Need-returns-else-n-lt18446744073709551615
+returns-else-n-lt18446744073709551615 c = no_more _ c.if-n-lt18446744073709551615.false
 
-pub one-more-spec : {M : Type 1} → statement M
-one-more-spec = tie.close (tie.spec add-result returns returns-2)
+pub one_more_spec : {M : Type 1} → statement M
+one_more_spec = tie.close (tie.spec overflow_add-result returns-then-n-lt18446744073709551615 returns-else-n-lt18446744073709551615)

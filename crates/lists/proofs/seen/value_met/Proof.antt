@@ -5,16 +5,16 @@ use borrow.Author.Rules.{rules}
 use Rattle.lists.proofs.seen.value_met.Statement.{statement}
 use Rattle.lists.proofs.seen.value_met.Tie as tie
 
+returns-then-not-wanted : tie.Need-returns-then-not-wanted
+returns-then-not-wanted c =
+    let a = c.args in no_value a.s.now a.o a.x a.wanted c.if-not-wanted.true-raw
+
+float_met-requires : tie.Need-float_met-requires
+float_met-requires c κs = search rules
+
 returns : tie.Need-returns
 returns c =
-    let a = c.before.before.args in no_value a.s.now a.o a.x a.wanted c.if1.true
+    let a = c.args in value a.s.now a.o a.x a.wanted c.if-not-wanted.false-raw _ c.float_met.ensures
 
-float-met-requires : tie.Need-float-met-requires
-float-met-requires c κs = search rules
-
-returns-2 : tie.Need-returns-2
-returns-2 c =
-    let a = c.before.before.before.args in value a.s.now a.o a.x a.wanted c.before.if1.false _ c.float-met.ensures
-
-pub value-met-spec : {M : Type 1} → statement M
-value-met-spec = tie.close (tie.spec returns float-met-requires returns-2)
+pub value_met_spec : {M : Type 1} → statement M
+value_met_spec = tie.close (tie.spec returns-then-not-wanted float_met-requires returns)

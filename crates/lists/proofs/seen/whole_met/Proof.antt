@@ -5,22 +5,22 @@ use borrow.Author.Rules.{rules}
 use Rattle.lists.proofs.seen.whole_met.Statement.{statement}
 use Rattle.lists.proofs.seen.whole_met.Tie as tie
 
-word-at-requires : tie.Need-word-at-requires
-word-at-requires c κs = search rules
+word_at-w-requires : tie.Need-word_at-w-requires
+word_at-w-requires c κs = search rules
 
-low-requires : tie.Need-low-requires
-low-requires c κs = search rules
+low-found-requires : tie.Need-low-found-requires
+low-found-requires c κs = search rules
 
-cast-met : tie.Need-overflow-cast-met
-cast-met c = search rules
+overflow_cast-w : tie.Need-overflow_cast-w
+overflow_cast-w c = search rules
 
 met-requires : tie.Need-met-requires
 met-requires c κs = search rules
 
 returns : tie.Need-returns
 returns c =
-    let a = c.before.before.before.before.before.args in
-    whole_is a.s.now a.o _ _ _ c.before.before.before.word_at.ensures _ _ a.n c.before.before.low.ensures c.met.ensures
+    let a = c.args in
+    whole_is a.s.now a.o _ _ _ c.word_at-w.ensures _ _ a.n c.low-found.ensures c.met.ensures
 
-pub whole-met-spec : {M : Type 1} → statement M
-whole-met-spec = tie.close (tie.spec word-at-requires low-requires cast-met met-requires returns)
+pub whole_met_spec : {M : Type 1} → statement M
+whole_met_spec = tie.close (tie.spec word_at-w-requires low-found-requires overflow_cast-w met-requires returns)
