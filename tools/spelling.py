@@ -94,6 +94,12 @@ def named():
         fields |= fields_in(text)
         if "/specs/" in p:
             defs |= names - fields_in(text)
+    # what a library of the kit calls so stays
+    own = set(os.listdir("crates"))
+    for p in antt:
+        for module, names in re.findall(r"(?m)^(?:pub )?use ([^\s{]+)\.\{([^}]*)\}", read(p)):
+            if not (module.startswith("Rattle.") and module.split(".")[1] in own):
+                declared -= {it.split(" as ")[0].strip() for it in names.split(",")}
     # helpers in the proof of one function: those that answer no goal
     for p in walks:
         text = re.sub(r"(?m)^\s*--.*$", "", read(p))

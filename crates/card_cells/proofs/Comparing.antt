@@ -1,6 +1,6 @@
 -- The cases of the comparison of a buffer, by what the tests and the calls on the way found. Assumes nothing.
 use mathlib.Core.Path.{◌≡◌, refl, ap, ◌∙◌}
-use mathlib.Core.Bool.{Bool, and_false}
+use mathlib.Core.Bool.{Bool, and-false}
 use mathlib.Core.List.{List}
 use Prim.Native.Nat.{ℕ, ◌+◌, ◌≤◌, ◌<◌}
 use native.Mathlib.Nat.{le_antisymm}
@@ -55,7 +55,7 @@ module _ (s : List ℕ) (o : Seen) (b k : ℕ) (l : List Float) (len : ℕ) wher
 
   pub too_few : len < k → go_to lost.next o ≡ cells_met s o b k l len
   unfolding cells_met
-  too_few h = rw (lt-leb k len h, and_false (leb len 272))
+  too_few h = rw (lt-leb k len h, and-false (leb len 272))
 
   pub all_of_them : len ≤ 272 → k ≤ len → (r : Seen) → r ≡ all_met s o b k l len → r ≡ cells_met s o b k l len
   unfolding cells_met

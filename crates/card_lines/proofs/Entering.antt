@@ -1,6 +1,6 @@
 -- Digits at a position, one more at a time: whether all of them are digits, and the number that they spell. Assumes nothing.
 use mathlib.Core.Path.{◌≡◌, refl, sym, ap, ◌∙◌, subst}
-use mathlib.Core.Bool.{Bool, true, false, ◌&&◌, and-eq-true_iff, and_true}
+use mathlib.Core.Bool.{Bool, true, false, ◌&&◌, and-eq-true_iff, and-true}
 use mathlib.Core.List.{List, [], ◌∷◌, ◌++◌}
 use Prim.Native.Nat.{ℕ, zero, suc, ◌+◌, ◌-◌, ◌*◌, ◌/◌, ◌^◌, ◌≤◌, ◌<◌}
 use native.Mathlib.Nat.{not-suc-le-zero, le_of_suc-le-suc, le_trans, pow-suc, pow-le-pow_right}
@@ -27,7 +27,7 @@ module _ (s : List ℕ) (p i : ℕ) (h : p + i < length s) where
 
 all_but_last : (t : List ℕ) (b : ℕ) → are_digits (t ++ (b ∷ [])) ≡ (are_digits t && ltb (digit_of b) 16)
 unfolding are_digits
-all_but_last [] b = and_true (ltb (digit_of b) 16)
+all_but_last [] b = and-true (ltb (digit_of b) 16)
 all_but_last (c ∷ t) b = at (ltb (digit_of c) 16) (all_but_last t b)
   where
     at : (y : Bool) → are_digits (t ++ (b ∷ [])) ≡ (are_digits t && ltb (digit_of b) 16) → (y && are_digits (t ++ (b ∷ []))) ≡ ((y && are_digits t) && ltb (digit_of b) 16)

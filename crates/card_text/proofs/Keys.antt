@@ -1,7 +1,7 @@
 -- Laws of what a text begins with, and of a line that begins with a key: a key has no newline in it, so that it may be looked for in the text as in the line.
 -- Assumes nothing.
 use mathlib.Core.Path.{◌≡◌, refl, sym, ap, ◌∙◌, subst}
-use mathlib.Core.Bool.{true, false, and-eq-true_iff, and_true, true≢false}
+use mathlib.Core.Bool.{true, false, and-eq-true_iff, and-true, true≢false}
 use mathlib.Core.List.{List, [], ◌∷◌, ◌++◌}
 use Prim.Native.Nat.{ℕ}
 use lib.Dec.{eqb}
@@ -45,7 +45,7 @@ module _ (key t : List ℕ) (plain : ends key ≡ false) where
 
     -- so the line is keyed where it is ended, and its value is the first line behind the key
     pub keyed_by : keyed key t ≡ ends u
-    keyed_by = rw (first_key, begins_key key (first_line u), ends_key) (and_true (ends u))
+    keyed_by = rw (first_key, begins_key key (first_line u), ends_key) (and-true (ends u))
 
     pub value_by : value_of key t ≡ first_line u
     value_by = rw first_key (drop-append_seam key (first_line u))

@@ -1,6 +1,6 @@
 -- The cases of the comparison, by what the tests and the calls on the way found. Assumes nothing.
 use mathlib.Core.Path.{◌≡◌, refl, ap, ◌∙◌}
-use mathlib.Core.Bool.{Bool, true, false, not, and_false}
+use mathlib.Core.Bool.{Bool, true, false, not, and-false}
 use mathlib.Core.List.{List}
 use Prim.Native.Nat.{ℕ, ◌+◌, ◌≤◌, ◌<◌}
 use native.Mathlib.Nat.{le_antisymm}
@@ -97,7 +97,7 @@ module _ (s : List ℕ) (o : Seen) (b : ℕ) (l : List Float) (len : ℕ) (wante
 
     pub too_long : 304 < len → go_to lost.next o ≡ buffer_met s o b l len wanted
     unfolding buffer_met
-    too_long h = rw (not-false wanted some, ← read, lt-leb len 304 h, and_false (eqb w.bits len))
+    too_long h = rw (not-false wanted some, ← read, lt-leb len 304 h, and-false (eqb w.bits len))
 
     pub buffer : w.bits ≡ len → len ≤ 304 → (r : Seen) → r ≡ cells_met s (go_to w.next o) b l len → r ≡ buffer_met s o b l len wanted
     unfolding buffer_met

@@ -16,21 +16,21 @@ use lib.Ieee.{Float, nan, inf, fin, Format, up, down, unlike, sum, round, add, m
 abbrev less : Format → Bool → ℕ → Bool → ℕ → ℕ → Float
 less f s a t b c = cond (ltb a b) (round f t (b - a) c) (round f (s && ltb b a) (a - b) c)
 
-and_true : (s : Bool) → s && true ≡ s
-and_true true = refl
-and_true false = refl
+and-true : (s : Bool) → s && true ≡ s
+and-true true = refl
+and-true false = refl
 
-and_false : (s : Bool) → s && false ≡ false
-and_false true = refl
-and_false false = refl
+and-false : (s : Bool) → s && false ≡ false
+and-false true = refl
+and-false false = refl
 
 -- where b is larger
 less_below : (f : Format) (s t : Bool) (a b c : ℕ) → a < b → less f s a t b c ≡ less f t b s a c
-less_below f s t a b c h = simp (lt-ltb a b h, le-ltb b a (omega arith), and_true t)
+less_below f s t a b c h = simp (lt-ltb a b h, le-ltb b a (omega arith), and-true t)
 
 -- where neither is
 less_level : (f : Format) (s t : Bool) (a c : ℕ) → less f s a t a c ≡ less f t a s a c
-less_level f s t a c = simp (le-ltb a a (omega arith), and_false s, and_false t)
+less_level f s t a c = simp (le-ltb a a (omega arith), and-false s, and-false t)
 
 -- so the order of two terms of unlike signs is nothing
 unlike_terms : (f : Format) (s t : Bool) (a b c : ℕ) → less f s a t b c ≡ less f t b s a c

@@ -11,48 +11,48 @@ use Rattle.card_verdicts.proofs.judge.Tie as tie
 heading-requires : tie.Need-heading-requires
 heading-requires c κs = search rules
 
-enum-known-v : tie.Need-enum-known-v
-enum-known-v c = search rules
+enum_known-v : tie.Need-enum_known-v
+enum_known-v c = search rules
 
-enum-known-n : tie.Need-enum-known-n
-enum-known-n c = search rules
+enum_known-n : tie.Need-enum_known-n
+enum_known-n c = search rules
 
-matrices-requires : tie.Need-matrices-requires
-matrices-requires c κs =
-    let h = (subst (Judged (head_answer _) _) c.before.n.given.1 c.before.before.before.heading.ensures).1 in
+matrices-v-requires : tie.Need-matrices-v-requires
+matrices-v-requires c κs =
+    let h = (subst (Judged (head_answer _) _) c.in-Taken.is c.heading.ensures).1 in
     (h.here, h.states_least, h.states_most, h.observations_least, h.observations_most)
 
-is-done-requires : tie.Need-is-done-requires
-is-done-requires c κs = search rules
+is_done-requires : tie.Need-is_done-requires
+is_done-requires c κs = search rules
 
-returns : tie.Need-returns
-returns c =
-    let s = c.before.before.before.before.before.args.s.now in
-    let h = subst (Judged (head_answer s) s) c.before.v.given.1 c.before.before.before.heading.ensures in
+returns-in-Refused : tie.Need-returns-in-Refused
+returns-in-Refused c =
+    let s = c.args.s.now in
+    let h = subst (Judged (head_answer s) s) c.in-Refused.is c.heading.ensures in
     (head_refuses 8 s _ h.0 h.1, h.1)
 
-returns-2 : tie.Need-returns-2
-returns-2 c =
-    let s = c.before.before.before.before.before.before.before.before.args.s.now in
-    let h = subst (Judged (head_answer s) s) c.before.before.before.before.n.given.1 c.before.before.before.before.before.before.heading.ensures in
-    let v = c.before.before.matrices in
-    (matrices_decide 8 s _ _ Done h.0 h.1.states h.1.observations (sym (is_done_lem v.result (sym c.before.is-done.ensures ∙ c.if1.true)) ∙ v.ensures), h.1)
+returns-then-is_done : tie.Need-returns-then-is_done
+returns-then-is_done c =
+    let s = c.args.s.now in
+    let h = subst (Judged (head_answer s) s) c.in-Taken.is c.heading.ensures in
+    let v = c.matrices-v in
+    (matrices_decide 8 s _ _ Done h.0 h.1.states h.1.observations (sym (is_done_lem v.result (sym c.is_done.ensures ∙ c.if-is_done.true)) ∙ v.ensures), h.1)
 
-returns-3 : tie.Need-returns-3
-returns-3 c =
-    let s = c.before.before.before.before.before.before.before.before.args.s.now in
-    let h = subst (Judged (head_answer s) s) c.before.before.before.before.n.given.1 c.before.before.before.before.before.before.heading.ensures in
-    (matrices_decide 8 s _ _ _ h.0 h.1.states h.1.observations c.before.before.matrices.ensures, sym c.before.is-done.ensures ∙ c.if1.false)
+returns-else-is_done : tie.Need-returns-else-is_done
+returns-else-is_done c =
+    let s = c.args.s.now in
+    let h = subst (Judged (head_answer s) s) c.in-Taken.is c.heading.ensures in
+    (matrices_decide 8 s _ _ _ h.0 h.1.states h.1.observations c.matrices-v.ensures, sym c.is_done.ensures ∙ c.if-is_done.false)
 
-pub judge-spec : {M : Type 1} → statement M
-judge-spec =
+pub judge_spec : {M : Type 1} → statement M
+judge_spec =
     tie.close
     (tie.spec
     heading-requires
-    enum-known-v
-    enum-known-n
-    matrices-requires
-    is-done-requires
-    returns
-    returns-2
-    returns-3)
+    enum_known-v
+    enum_known-n
+    matrices-v-requires
+    is_done-requires
+    returns-in-Refused
+    returns-then-is_done
+    returns-else-is_done)

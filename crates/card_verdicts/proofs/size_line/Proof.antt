@@ -10,37 +10,37 @@ use borrow.Author.Rules.{rules}
 use Rattle.card_verdicts.proofs.size_line.Statement.{statement}
 use Rattle.card_verdicts.proofs.size_line.Tie as tie
 
-count-line-requires : tie.Need-count-line-requires
-count-line-requires c κs = search rules
+count_line-requires : tie.Need-count_line-requires
+count_line-requires c κs = search rules
 
-enum_told : tie.Need-enum-told
-enum_told c = search rules
+enum_told-1 : tie.Need-enum_told-1
+enum_told-1 c = search rules
 
-enum-known-n : tie.Need-enum-known-n
-enum-known-n c = search rules
+enum_known-n : tie.Need-enum_known-n
+enum_known-n c = search rules
 
-then-size-requires : tie.Need-then-size-requires
-then-size-requires c κs = search rules
+then_size-v-requires : tie.Need-then_size-v-requires
+then_size-v-requires c κs = search rules
 
-is-done-requires : tie.Need-is-done-requires
-is-done-requires c κs = search rules
+is_done-requires : tie.Need-is_done-requires
+is_done-requires c κs = search rules
 
-returns : tie.Need-returns
-returns c =
-    let a = c.before.before.before.before.before.args in
-    (size_line_wrong a.key.now (drop a.at a.s.now) a.line a.which (not_counted a.key.now a.s.now a.at (sym c.enum_told.given.1 ∙ c.before.before.count-line.ensures)), refl)
+returns-in-Bad : tie.Need-returns-in-Bad
+returns-in-Bad c =
+    let a = c.args in
+    (size_line_wrong a.key.now (drop a.at a.s.now) a.line a.which (not_counted a.key.now a.s.now a.at (sym c.in-Bad.is ∙ c.count_line.ensures)), refl)
 
-returns-2 : tie.Need-returns-2
-returns-2 c =
-    let a = c.before.before.before.before.before.before.before.before.before.args in
+returns-then-is_done : tie.Need-returns-then-is_done
+returns-then-is_done c =
+    let a = c.args in
     let key = a.key.now in
     let s = a.s.now in
-    let g = c.before.before.before.before.n.given in
-    let e = sym g.1 ∙ c.before.before.before.before.before.before.count-line.ensures in
+    let g = c.n-1.given in
+    let e = sym g.1 ∙ c.count_line.ensures in
     let n = g.0.0 in
     let q = g.0.1.0 in
-    let v = c.before.before.then-size in
-    let done = sym c.before.is-done.ensures ∙ c.if1.true in
+    let v = c.then_size-v in
+    let done = sym c.is_done.ensures ∙ c.if-is_done.true in
     let range = size_range a.which n (ap is_done (sym v.ensures) ∙ done) in (
       size_line_says key (drop a.at s) a.line a.which n Done (is_count_lem key s a.at n q e) (the_count key s a.at n q e) (sym (is_done_lem v.result done) ∙ v.ensures),
       is_count_lem key s a.at n q e,
@@ -50,29 +50,29 @@ returns-2 c =
       behind_count key s a.at n q e,
     )
 
-returns-3 : tie.Need-returns-3
-returns-3 c =
-    let a = c.before.before.before.before.before.before.before.before.before.args in
+returns-else-is_done : tie.Need-returns-else-is_done
+returns-else-is_done c =
+    let a = c.args in
     let key = a.key.now in
     let s = a.s.now in
-    let g = c.before.before.before.before.n.given in
-    let e = sym g.1 ∙ c.before.before.before.before.before.before.count-line.ensures in
+    let g = c.n-1.given in
+    let e = sym g.1 ∙ c.count_line.ensures in
     let n = g.0.0 in
     let q = g.0.1.0 in
-    let v = c.before.before.then-size in (
+    let v = c.then_size-v in (
       size_line_says key (drop a.at s) a.line a.which n v.result (is_count_lem key s a.at n q e) (the_count key s a.at n q e) v.ensures,
-      sym c.before.is-done.ensures ∙ c.if1.false,
+      sym c.is_done.ensures ∙ c.if-is_done.false,
     )
 
-pub size-line-spec : {M : Type 1} → statement M
-size-line-spec =
+pub size_line_spec : {M : Type 1} → statement M
+size_line_spec =
     tie.close
     (tie.spec
-    count-line-requires
-    enum_told
-    enum-known-n
-    then-size-requires
-    is-done-requires
-    returns
-    returns-2
-    returns-3)
+    count_line-requires
+    enum_told-1
+    enum_known-n
+    then_size-v-requires
+    is_done-requires
+    returns-in-Bad
+    returns-then-is_done
+    returns-else-is_done)

@@ -8,5 +8,5 @@ returns : tie.Need-returns
 unfolding of_bits
 returns c = refl
 
-pub recip-spec : {M : Type 1} → statement M
-recip-spec = tie.close (tie.spec returns)
+pub recip_spec : {M : Type 1} → statement M
+recip_spec = tie.close (tie.spec returns)

@@ -7,6 +7,7 @@ use lib.Ieee.{binary32, nan, add}
 use lib.Ieee.Scale.{finite}
 use Rattle.finite.proofs.Testing.{Testing, none_tested, one_failed, one_passed, all_tested}
 use Rattle.finite.proofs.sums_finite.Statement.{statement}
+use Rattle.finite.proofs.sums_finite.Lts.{then-not-is_finite, else-not-is_finite}
 use Rattle.finite.proofs.sums_finite.Tie as tie
 
 abbrev invariant-loop : tie.invariant-loop-i
@@ -20,7 +21,7 @@ loop-i-preserved c =
     let turn = c.before.before.before.before in
     let told = c.is_finite.ensures in
     let below = turn.loop-i-test.true in
-    ⊎_elim (λ w. one_failed turn.loop-i.invariant below told w.0.taken w.1) (λ w. one_passed turn.loop-i.invariant below told w.0.left w.1) c.if-not-is_finite.branch
+    elim c.if-not-is_finite.branch [ then-not-is_finite w ↦ one_failed turn.loop-i.invariant below told w.if-not-is_finite.true-raw w.all-is | else-not-is_finite w ↦ one_passed turn.loop-i.invariant below told w.if-not-is_finite.false-raw w.all-is ]
 
 pub sums_finite_spec : {M : Type 1} → statement M
 sums_finite_spec =

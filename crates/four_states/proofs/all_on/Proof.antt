@@ -11,8 +11,8 @@ use Rattle.four_states.proofs.all_on.Tie as tie
 returns : tie.Need-returns
 unfolding row_dot all_on
 returns c =
-    let args = c.before.before.before.before.args in
-    four_is _ (times_x binary32 4 (in_large args.a) (in_four args.x)) (c.before.before.before.row_on.ensures, c.before.before.row-on2.ensures, c.before.row-on3.ensures, c.row-on4.ensures)
+    let args = c.args in
+    four_is _ (times_x binary32 4 (in_large args.a) (in_four args.x)) (c.row_on.ensures, c.row_on-2.ensures, c.row_on-3.ensures, c.row_on-4.ensures)
 
-pub all-on-spec : {M : Type 1} → statement M
-all-on-spec = tie.close (tie.spec (λ c κs. tt) (λ c κs. tt) (λ c κs. tt) (λ c κs. tt) returns)
+pub all_on_spec : {M : Type 1} → statement M
+all_on_spec = tie.close (tie.spec (λ c κs. tt) (λ c κs. tt) (λ c κs. tt) (λ c κs. tt) returns)

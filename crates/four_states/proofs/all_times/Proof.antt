@@ -10,8 +10,8 @@ use Rattle.four_states.proofs.all_times.Tie as tie
 returns : tie.Need-returns
 unfolding row_times all_times of_bits
 returns c =
-    let args = c.before.before.before.before.before.before.before.before.args in
-    sixteen_is (row_of args.a.f0 args.p c.before.before.before.before.before.before.before.with_two.ensures c.before.before.before.before.before.before.with-two2.ensures) (row_of args.a.f1 args.p c.before.before.before.before.before.with-two3.ensures c.before.before.before.before.with-two4.ensures) (row_of args.a.f2 args.p c.before.before.before.with-two5.ensures c.before.before.with-two6.ensures) (row_of args.a.f3 args.p c.before.with-two7.ensures c.with-two8.ensures)
+    let args = c.args in
+    sixteen_is (row_of args.a.f0 args.p c.with_two-h0.ensures c.with_two-r0.ensures) (row_of args.a.f1 args.p c.with_two-h1.ensures c.with_two-r1.ensures) (row_of args.a.f2 args.p c.with_two-h2.ensures c.with_two-r2.ensures) (row_of args.a.f3 args.p c.with_two-h3.ensures c.with_two-r3.ensures)
 
-pub all-times-spec : {M : Type 1} → statement M
-all-times-spec = tie.close (tie.spec (λ c κs. tt) (λ c κs. tt) (λ c κs. tt) (λ c κs. tt) (λ c κs. tt) (λ c κs. tt) (λ c κs. tt) (λ c κs. tt) returns)
+pub all_times_spec : {M : Type 1} → statement M
+all_times_spec = tie.close (tie.spec (λ c κs. tt) (λ c κs. tt) (λ c κs. tt) (λ c κs. tt) (λ c κs. tt) (λ c κs. tt) (λ c κs. tt) (λ c κs. tt) returns)

@@ -7,10 +7,10 @@ use Rattle.four_states.proofs.predict_four.Statement.{statement}
 use Rattle.four_states.proofs.predict_four.Tie as tie
 
 -- where the function began, from A read and from all made
-abbrev start : tie.After-read-sixteen → tie.Start
+abbrev start : tie.After-read_sixteen-m → tie.Start
 start c = c.before.before.before.before.before.before.before
 
-abbrev made : tie.After-times-plus → tie.Start
+abbrev made : tie.After-times_plus-n → tie.Start
 made c = start c.before.before.before.before.before.before.before.before.before
 
 returns : tie.Need-returns
@@ -27,22 +27,22 @@ returns c =
     let args = (start a).args in
     let A = cell 4 args.a.now in
     let P = cell 4 args.p.now in
-    let v = four_is _ (numbers args.x.now) on.before.read.ensures in (
-      x_left A a.read-sixteen.ensures (numbers args.x.now) v on.all-on.ensures args.x.now x.put.ensures,
+    let v = four_is _ (numbers args.x.now) on.read.ensures in (
+      x_left A a.read_sixteen-m.ensures (numbers args.x.now) v on.all_on-next.ensures args.x.now x.put.ensures,
       (
-        x_left A a.read-sixteen.ensures (numbers args.x.now) v on.all-on.ensures args.predicted.now predicted.put2.ensures,
+        x_left A a.read_sixteen-m.ensures (numbers args.x.now) v on.all_on-next.ensures args.predicted.now predicted.put-2.ensures,
         (
-          P-left A a.read-sixteen.ensures P t.before.read-sixteen2.ensures t.all-times.ensures (cell 4 args.q.now) n.before.before.turned.ensures n.before.read-sixteen3.ensures n.times-plus.ensures args.p.now p.put-sixteen2.ensures,
-          temp_left A a.read-sixteen.ensures P t.before.read-sixteen2.ensures t.all-times.ensures args.temp.now temp.put-sixteen.ensures,
+          P-left A a.read_sixteen-m.ensures P t.read_sixteen.ensures t.all_times-t.ensures (cell 4 args.q.now) n.turned.ensures n.read_sixteen-2.ensures n.times_plus-n.ensures args.p.now p.put_sixteen-2.ensures,
+          temp_left A a.read_sixteen-m.ensures P t.read_sixteen.ensures t.all_times-t.ensures args.temp.now temp.put_sixteen.ensures,
         ),
       ),
     )
 
-pub predict-four-spec : {M : Type 1} → statement M
-predict-four-spec =
+pub predict_four_spec : {M : Type 1} → statement M
+predict_four_spec =
     tie.close
     (tie.spec
-    (λ c κs. c.before.before.before.before.before.before.requires.1)
+    (λ c κs. c.requires.1)
     (λ c κs. (start c.before).requires.0)
     (λ c κs. tt)
     (λ c κs. (start c.before.before.before.before).requires.2)
@@ -54,8 +54,8 @@ predict-four-spec =
     (λ c κs. (made c.before.before.before.before.before).requires.4)
     (λ c κs. (made c.before.before.before.before.before.before.before.before.before).requires.5)
     (λ c κs. (made c.before.before.before.before.before.before.before.before.before.before.before.before.before).requires.2)
-    (λ c. c.before.before.before.before.before.before.before.before.before.before.before.before.before.x.given)
-    (λ c. c.before.p.given)
-    (λ c. c.before.before.before.before.before.before.before.before.before.predicted.given)
-    (λ c. c.before.before.before.before.before.temp.given)
+    (λ c. c.x-1.given)
+    (λ c. c.p-1.given)
+    (λ c. c.predicted-1.given)
+    (λ c. c.temp-1.given)
     returns)

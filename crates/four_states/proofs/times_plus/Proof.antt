@@ -18,12 +18,12 @@ sums t q k = add binary32 (in_four t k) (in_four q k)
 returns : tie.Need-returns
 unfolding row_times all_times all_plus of_bits
 returns c =
-    let args = c.before.before.before.before.before.before.before.before.before.before.before.before.args in
+    let args = c.args in
     sixteen_is
-    (four_is _ (sums _ args.q.f0) c.before.before.before.plus.ensures ∙ ap (λ (t : Four). four (sums t args.q.f0)) (row_of args.a.f0 args.p c.before.before.before.before.before.before.before.before.before.before.before.with_two.ensures c.before.before.before.before.before.before.before.before.before.before.with-two2.ensures))
-    (four_is _ (sums _ args.q.f1) c.before.before.plus2.ensures ∙ ap (λ (t : Four). four (sums t args.q.f1)) (row_of args.a.f1 args.p c.before.before.before.before.before.before.before.before.before.with-two3.ensures c.before.before.before.before.before.before.before.before.with-two4.ensures))
-    (four_is _ (sums _ args.q.f2) c.before.plus3.ensures ∙ ap (λ (t : Four). four (sums t args.q.f2)) (row_of args.a.f2 args.p c.before.before.before.before.before.before.before.with-two5.ensures c.before.before.before.before.before.before.with-two6.ensures))
-    (four_is _ (sums _ args.q.f3) c.plus4.ensures ∙ ap (λ (t : Four). four (sums t args.q.f3)) (row_of args.a.f3 args.p c.before.before.before.before.before.with-two7.ensures c.before.before.before.before.with-two8.ensures))
+    (four_is _ (sums _ args.q.f0) c.plus.ensures ∙ ap (λ (t : Four). four (sums t args.q.f0)) (row_of args.a.f0 args.p c.with_two-h0.ensures c.with_two-r0.ensures))
+    (four_is _ (sums _ args.q.f1) c.plus-2.ensures ∙ ap (λ (t : Four). four (sums t args.q.f1)) (row_of args.a.f1 args.p c.with_two-h1.ensures c.with_two-r1.ensures))
+    (four_is _ (sums _ args.q.f2) c.plus-3.ensures ∙ ap (λ (t : Four). four (sums t args.q.f2)) (row_of args.a.f2 args.p c.with_two-h2.ensures c.with_two-r2.ensures))
+    (four_is _ (sums _ args.q.f3) c.plus-4.ensures ∙ ap (λ (t : Four). four (sums t args.q.f3)) (row_of args.a.f3 args.p c.with_two-h3.ensures c.with_two-r3.ensures))
 
-pub times-plus-spec : {M : Type 1} → statement M
-times-plus-spec = tie.close (tie.spec (λ c κs. tt) (λ c κs. tt) (λ c κs. tt) (λ c κs. tt) (λ c κs. tt) (λ c κs. tt) (λ c κs. tt) (λ c κs. tt) (λ c κs. tt) (λ c κs. tt) (λ c κs. tt) (λ c κs. tt) returns)
+pub times_plus_spec : {M : Type 1} → statement M
+times_plus_spec = tie.close (tie.spec (λ c κs. tt) (λ c κs. tt) (λ c κs. tt) (λ c κs. tt) (λ c κs. tt) (λ c κs. tt) (λ c κs. tt) (λ c κs. tt) (λ c κs. tt) (λ c κs. tt) (λ c κs. tt) (λ c κs. tt) returns)

@@ -10,5 +10,5 @@ returns : tie.Need-returns
 unfolding pair_times sum_from of_bits
 returns c = refl
 
-pub pair-times-spec : {M : Type 1} → statement M
-pair-times-spec = tie.close (tie.spec returns)
+pub pair_times_spec : {M : Type 1} → statement M
+pair_times_spec = tie.close (tie.spec returns)

@@ -7,7 +7,7 @@ use Rattle.four_values.proofs.put_eight.Tie as tie
 
 returns : tie.Need-returns
 unfolding run
-returns c = eight_put _ _ _ _ c.before.before.before.before.before.before.put.ensures c.before.before.put2.ensures
+returns c = eight_put _ _ _ _ c.put.ensures c.put-2.ensures
 
-pub put-eight-spec : {M : Type 1} → statement M
-put-eight-spec = tie.close (tie.spec (λ c κs. search rules) (λ c κs. search rules) (λ c. search rules) returns)
+pub put_eight_spec : {M : Type 1} → statement M
+put_eight_spec = tie.close (tie.spec (λ c κs. search rules) (λ c κs. search rules) (λ c. search rules) returns)

@@ -7,10 +7,10 @@ use Rattle.four_values.proofs.put_sixteen.Tie as tie
 
 returns : tie.Need-returns
 unfolding run
-returns c = sixteen_put _ _ _ _ _ _ c.before.before.before.before.before.before.before.before.before.before.before.before.before.before.put.ensures c.before.before.before.before.before.before.before.before.before.before.put2.ensures c.before.before.before.before.before.before.put3.ensures c.before.before.put4.ensures
+returns c = sixteen_put _ _ _ _ _ _ c.put.ensures c.put-2.ensures c.put-3.ensures c.put-4.ensures
 
-pub put-sixteen-spec : {M : Type 1} → statement M
-put-sixteen-spec =
+pub put_sixteen_spec : {M : Type 1} → statement M
+put_sixteen_spec =
     tie.close
     (tie.spec
     (λ c κs. search rules)

@@ -7,11 +7,11 @@ use Rattle.four_values.proofs.read_sixteen.Tie as tie
 
 returns : tie.Need-returns
 returns c =
-    let row = cell 4 c.before.before.before.before.before.args.c.now in
-    sixteen_is (four_is _ (row 0) c.before.before.before.read.ensures) (four_is _ (row 1) c.before.before.read2.ensures) (four_is _ (row 2) c.before.read3.ensures) (four_is _ (row 3) c.read4.ensures)
+    let row = cell 4 c.args.c.now in
+    sixteen_is (four_is _ (row 0) c.read.ensures) (four_is _ (row 1) c.read-2.ensures) (four_is _ (row 2) c.read-3.ensures) (four_is _ (row 3) c.read-4.ensures)
 
-pub read-sixteen-spec : {M : Type 1} → statement M
-read-sixteen-spec =
+pub read_sixteen_spec : {M : Type 1} → statement M
+read_sixteen_spec =
     tie.close
     (tie.spec
     (λ c κs. omega arith)

@@ -9,5 +9,5 @@ returns : tie.Need-returns
 unfolding row_dot sum_from
 returns c = refl
 
-pub row-on-spec : {M : Type 1} → statement M
-row-on-spec = tie.close (tie.spec returns)
+pub row_on_spec : {M : Type 1} → statement M
+row_on_spec = tie.close (tie.spec returns)

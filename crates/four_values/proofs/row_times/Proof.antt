@@ -10,5 +10,5 @@ returns : tie.Need-returns
 unfolding row_times sum_from of_bits
 returns c = refl
 
-pub row-times-spec : {M : Type 1} → statement M
-row-times-spec = tie.close (tie.spec returns)
+pub row_times_spec : {M : Type 1} → statement M
+row_times_spec = tie.close (tie.spec returns)

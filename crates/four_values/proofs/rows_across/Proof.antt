@@ -10,5 +10,5 @@ returns : tie.Need-returns
 unfolding rows_across sum_from of_bits
 returns c = refl
 
-pub rows-across-spec : {M : Type 1} → statement M
-rows-across-spec = tie.close (tie.spec returns)
+pub rows_across_spec : {M : Type 1} → statement M
+rows_across_spec = tie.close (tie.spec returns)

@@ -10,5 +10,5 @@ returns : tie.Need-returns
 unfolding square_times sum_from of_bits
 returns c = refl
 
-pub square-times-spec : {M : Type 1} → statement M
-square-times-spec = tie.close (tie.spec returns)
+pub square_times_spec : {M : Type 1} → statement M
+square_times_spec = tie.close (tie.spec returns)

@@ -8,5 +8,5 @@ returns : tie.Need-returns
 unfolding with_two
 returns c = refl
 
-pub with-two-spec : {M : Type 1} → statement M
-with-two-spec = tie.close (tie.spec returns)
+pub with_two_spec : {M : Type 1} → statement M
+with_two_spec = tie.close (tie.spec returns)

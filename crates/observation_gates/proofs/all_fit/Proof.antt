@@ -8,17 +8,17 @@ use Rattle.observation_gates.proofs.all_fit.Statement.{statement}
 use Rattle.observation_gates.proofs.all_fit.Tie as tie
 
 -- the answer so far is done
-done : (c : tie.Then2) → is_done c.before.before.before.args.v ≡ true
-done c = sym c.before.is-done.ensures ∙ c.if2.true
+done : (c : tie.Then-is_done) → is_done c.args.v ≡ true
+done c = sym c.is_done.ensures ∙ c.if-is_done.true
+
+returns-then-m-lt2 : tie.Need-returns-then-m-lt2
+returns-then-m-lt2 c = simp (lt-leb _ _ c.if-m-lt2.true)
+
+returns-then-is_done : tie.Need-returns-then-is_done
+returns-then-is_done c = rw (le-leb _ _ c.if-m-lt2.false, done c.before) c.rest_fits.ensures
 
 returns : tie.Need-returns
-returns c = simp (lt-leb _ _ c.if1.true)
+returns c = simp (le-leb _ _ c.if-m-lt2.false, sym c.is_done.ensures ∙ c.if-is_done.false)
 
-returns-2 : tie.Need-returns-2
-returns-2 c = rw (le-leb _ _ c.before.before.before.if1.false, done c.before) c.rest-fits.ensures
-
-returns-3 : tie.Need-returns-3
-returns-3 c = simp (le-leb _ _ c.before.before.if1.false, sym c.before.is-done.ensures ∙ c.if2.false)
-
-pub all-fit-spec : {M : Type 1} → statement M
-all-fit-spec = tie.close (tie.spec returns (λ c κs. search rules) (λ c κs. c.before.before.before.requires (done c)) returns-2 returns-3)
+pub all_fit_spec : {M : Type 1} → statement M
+all_fit_spec = tie.close (tie.spec returns-then-m-lt2 (λ c κs. search rules) (λ c κs. c.requires (done c)) returns-then-is_done returns)

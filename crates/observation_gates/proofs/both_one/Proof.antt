@@ -4,11 +4,11 @@ use borrow.Author.Tests.{ne_eqb}
 use Rattle.observation_gates.proofs.both_one.Statement.{statement}
 use Rattle.observation_gates.proofs.both_one.Tie as tie
 
-returns : tie.Need-returns
-returns c = rw c.if1.true refl
+returns-then-n-eq1 : tie.Need-returns-then-n-eq1
+returns-then-n-eq1 c = rw c.if-n-eq1.true refl
 
-returns-2 : tie.Need-returns-2
-returns-2 c = simp (ne_eqb _ _ c.if1.false)
+returns-else-n-eq1 : tie.Need-returns-else-n-eq1
+returns-else-n-eq1 c = simp (ne_eqb _ _ c.if-n-eq1.false)
 
-pub both-one-spec : {M : Type 1} → statement M
-both-one-spec = tie.close (tie.spec returns returns-2)
+pub both_one_spec : {M : Type 1} → statement M
+both_one_spec = tie.close (tie.spec returns-then-n-eq1 returns-else-n-eq1)

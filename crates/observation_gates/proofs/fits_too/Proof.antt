@@ -4,8 +4,8 @@ use borrow.Author.Rules.{rules}
 use Rattle.observation_gates.proofs.fits_too.Statement.{statement}
 use Rattle.observation_gates.proofs.fits_too.Tie as tie
 
-returns : tie.Need-returns
-returns c = simp c.if1.true
+returns-then-so_far : tie.Need-returns-then-so_far
+returns-then-so_far c = simp c.if-so_far.true
 
-pub fits-too-spec : {M : Type 1} → statement M
-fits-too-spec = tie.close (tie.spec returns (λ c. search rules))
+pub fits_too_spec : {M : Type 1} → statement M
+fits_too_spec = tie.close (tie.spec returns-then-so_far (λ c. search rules))

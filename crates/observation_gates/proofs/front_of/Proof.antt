@@ -4,31 +4,31 @@ use Rattle.answers.proofs.Asked.{asked}
 use Rattle.observation_gates.proofs.front_of.Statement.{statement}
 use Rattle.observation_gates.proofs.front_of.Tie as tie
 
-then-size-requires : tie.Need-then-size-requires
-then-size-requires c κs = search rules
+then_size-states-requires : tie.Need-then_size-states-requires
+then_size-states-requires c κs = search rules
 
-then-size-requires-2 : tie.Need-then-size-requires-2
-then-size-requires-2 c κs = search rules
+then_size-sizes-requires : tie.Need-then_size-sizes-requires
+then_size-sizes-requires c κs = search rules
 
-then-buffer-requires : tie.Need-then-buffer-requires
-then-buffer-requires c κs = search rules
+then_buffer-x-requires : tie.Need-then_buffer-x-requires
+then_buffer-x-requires c κs = search rules
 
-then-matrix-requires : tie.Need-then-matrix-requires
-then-matrix-requires c κs = search rules
+then_matrix-p-requires : tie.Need-then_matrix-p-requires
+then_matrix-p-requires c κs = search rules
 
-then-matrix-requires-2 : tie.Need-then-matrix-requires-2
-then-matrix-requires-2 c κs = search rules
+then_matrix-requires : tie.Need-then_matrix-requires
+then_matrix-requires c κs = search rules
 
 returns : tie.Need-returns
-returns c = asked _ (asked _ (asked _ (asked _ c.before.before.before.before.then-size.ensures c.before.before.before.then-size2.ensures) c.before.before.then-buffer.ensures) c.before.then-matrix.ensures) c.then-matrix2.ensures
+returns c = asked _ (asked _ (asked _ (asked _ c.then_size-states.ensures c.then_size-sizes.ensures) c.then_buffer-x.ensures) c.then_matrix-p.ensures) c.then_matrix.ensures
 
-pub front-of-spec : {M : Type 1} → statement M
-front-of-spec =
+pub front_of_spec : {M : Type 1} → statement M
+front_of_spec =
     tie.close
     (tie.spec
-    then-size-requires
-    then-size-requires-2
-    then-buffer-requires
-    then-matrix-requires
-    then-matrix-requires-2
+    then_size-states-requires
+    then_size-sizes-requires
+    then_buffer-x-requires
+    then_matrix-p-requires
+    then_matrix-requires
     returns)

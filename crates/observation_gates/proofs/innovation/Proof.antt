@@ -5,36 +5,36 @@ use Rattle.filters.specs.Lent.{innovation_answer}
 use Rattle.observation_gates.proofs.innovation.Statement.{statement}
 use Rattle.observation_gates.proofs.innovation.Tie as tie
 
-then-size-requires : tie.Need-then-size-requires
-then-size-requires c κs = search rules
+then_size-states-requires : tie.Need-then_size-states-requires
+then_size-states-requires c κs = search rules
 
-then-size-requires-2 : tie.Need-then-size-requires-2
-then-size-requires-2 c κs = search rules
+then_size-sizes-requires : tie.Need-then_size-sizes-requires
+then_size-sizes-requires c κs = search rules
 
-then-buffer-requires : tie.Need-then-buffer-requires
-then-buffer-requires c κs = search rules
+then_buffer-x-requires : tie.Need-then_buffer-x-requires
+then_buffer-x-requires c κs = search rules
 
-then-matrix-requires : tie.Need-then-matrix-requires
-then-matrix-requires c κs = search rules
+then_matrix-h-requires : tie.Need-then_matrix-h-requires
+then_matrix-h-requires c κs = search rules
 
-then-buffer-requires-2 : tie.Need-then-buffer-requires-2
-then-buffer-requires-2 c κs = search rules
+then_buffer-z-requires : tie.Need-then_buffer-z-requires
+then_buffer-z-requires c κs = search rules
 
-then-buffer-requires-3 : tie.Need-then-buffer-requires-3
-then-buffer-requires-3 c κs = search rules
+then_buffer-requires : tie.Need-then_buffer-requires
+then_buffer-requires c κs = search rules
 
 returns : tie.Need-returns
 unfolding innovation_answer
-returns c = asked _ (asked _ (asked _ (asked _ (asked _ c.before.before.before.before.before.then-size.ensures c.before.before.before.before.then-size2.ensures) c.before.before.before.then-buffer.ensures) c.before.before.then-matrix.ensures) c.before.then-buffer2.ensures) c.then-buffer3.ensures
+returns c = asked _ (asked _ (asked _ (asked _ (asked _ c.then_size-states.ensures c.then_size-sizes.ensures) c.then_buffer-x.ensures) c.then_matrix-h.ensures) c.then_buffer-z.ensures) c.then_buffer.ensures
 
-pub innovation-spec : {M : Type 1} → statement M
-innovation-spec =
+pub innovation_spec : {M : Type 1} → statement M
+innovation_spec =
     tie.close
     (tie.spec
-    then-size-requires
-    then-size-requires-2
-    then-buffer-requires
-    then-matrix-requires
-    then-buffer-requires-2
-    then-buffer-requires-3
+    then_size-states-requires
+    then_size-sizes-requires
+    then_buffer-x-requires
+    then_matrix-h-requires
+    then_buffer-z-requires
+    then_buffer-requires
     returns)

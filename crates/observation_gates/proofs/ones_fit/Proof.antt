@@ -5,10 +5,10 @@ use Rattle.observation_gates.proofs.ones_fit.Statement.{statement}
 use Rattle.observation_gates.proofs.ones_fit.Tie as tie
 
 returns : tie.Need-returns
-returns c = too _ (too _ (too _ (too _ (too _ (too _ (too _ (too _ (too _ (too _ (too _ (too _ c.before.before.before.before.before.before.before.before.before.before.before.before.both_one.ensures c.before.before.before.before.before.before.before.before.before.before.before.fits-too.ensures) c.before.before.before.before.before.before.before.before.before.before.fits-too2.ensures) c.before.before.before.before.before.before.before.before.before.fits-too3.ensures) c.before.before.before.before.before.before.before.before.fits-too4.ensures) c.before.before.before.before.before.before.before.fits-too5.ensures) c.before.before.before.before.before.before.fits-too6.ensures) c.before.before.before.before.before.fits-too7.ensures) c.before.before.before.before.fits-too8.ensures) c.before.before.before.fits-too9.ensures) c.before.before.fits-too10.ensures) c.before.fits-too11.ensures) c.fits-too12.ensures
+returns c = too _ (too _ (too _ (too _ (too _ (too _ (too _ (too _ (too _ (too _ (too _ (too _ c.both_one-sizes.ensures c.fits_too-x.ensures) c.fits_too-p.ensures) c.fits_too-h.ensures) c.fits_too-z.ensures) c.fits_too-r.ensures) c.fits_too-y.ensures) c.fits_too-s.ensures) c.fits_too-k.ensures) c.fits_too-inv.ensures) c.fits_too-hp.ensures) c.fits_too-pht.ensures) c.fits_too.ensures
 
-pub ones-fit-spec : {M : Type 1} → statement M
-ones-fit-spec =
+pub ones_fit_spec : {M : Type 1} → statement M
+ones_fit_spec =
     tie.close
     (tie.spec
     (λ c κs. search rules)

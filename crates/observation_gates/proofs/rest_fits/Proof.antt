@@ -7,10 +7,10 @@ use Rattle.observation_gates.proofs.rest_fits.Statement.{statement}
 use Rattle.observation_gates.proofs.rest_fits.Tie as tie
 
 returns : tie.Need-returns
-returns c = too _ (too _ (too _ (too _ (too _ (too _ (too _ (too _ c.before.before.before.before.before.before.before.before.fits-too.ensures c.before.before.before.before.before.before.before.fits-too2.ensures) c.before.before.before.before.before.before.fits-too3.ensures) c.before.before.before.before.before.fits-too4.ensures) c.before.before.before.before.fits-too5.ensures) c.before.before.before.fits-too6.ensures) c.before.before.fits-too7.ensures) c.before.fits-too8.ensures) c.fits-too9.ensures
+returns c = too _ (too _ (too _ (too _ (too _ (too _ (too _ (too _ c.fits_too-z.ensures c.fits_too-r.ensures) c.fits_too-y.ensures) c.fits_too-s.ensures) c.fits_too-k.ensures) c.fits_too-inv.ensures) c.fits_too-hp.ensures) c.fits_too-pht.ensures) c.fits_too.ensures
 
-pub rest-fits-spec : {M : Type 1} → statement M
-rest-fits-spec =
+pub rest_fits_spec : {M : Type 1} → statement M
+rest_fits_spec =
     tie.close
     (tie.spec
     (λ c. let a = c.args in let h = few a.m a.m c.requires.1 c.requires.1 in omega arith)

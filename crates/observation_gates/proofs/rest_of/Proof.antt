@@ -5,7 +5,7 @@ use Rattle.observation_gates.proofs.rest_of.Statement.{statement}
 use Rattle.observation_gates.proofs.rest_of.Tie as tie
 
 returns : tie.Need-returns
-returns c = after_three _ _ _ _ _ c.then-products.ensures (after_two _ _ _ _ c.before.then-gain.ensures (after_three _ _ _ _ _ c.before.before.then-residual.ensures c.before.before.before.then-buffer.ensures))
+returns c = after_three _ _ _ _ _ c.then_products.ensures (after_two _ _ _ _ c.then_gain-inv.ensures (after_three _ _ _ _ _ c.then_residual-s.ensures c.then_buffer-z.ensures))
 
-pub rest-of-spec : {M : Type 1} → statement M
-rest-of-spec = tie.close (tie.spec (λ c κs. search rules) (λ c κs. search rules) (λ c κs. search rules) (λ c κs. search rules) returns)
+pub rest_of_spec : {M : Type 1} → statement M
+rest_of_spec = tie.close (tie.spec (λ c κs. search rules) (λ c κs. search rules) (λ c κs. search rules) (λ c κs. search rules) returns)

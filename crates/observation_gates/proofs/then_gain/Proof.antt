@@ -4,17 +4,17 @@ use Rattle.answers.proofs.Asked.{asked}
 use Rattle.observation_gates.proofs.then_gain.Statement.{statement}
 use Rattle.observation_gates.proofs.then_gain.Tie as tie
 
-then-matrix-requires : tie.Need-then-matrix-requires
-then-matrix-requires c κs = search rules
+then_matrix-k-requires : tie.Need-then_matrix-k-requires
+then_matrix-k-requires c κs = search rules
 
-add-then-matrix : tie.Need-overflow-add-then-matrix
-add-then-matrix c = search rules
+overflow_add-i : tie.Need-overflow_add-i
+overflow_add-i c = search rules
 
-then-matrix-requires-2 : tie.Need-then-matrix-requires-2
-then-matrix-requires-2 c κs = search rules
+then_matrix-requires : tie.Need-then_matrix-requires
+then_matrix-requires c κs = search rules
 
 returns : tie.Need-returns
-returns c = asked _ c.before.then-matrix.ensures c.then-matrix2.ensures
+returns c = asked _ c.then_matrix-k.ensures c.then_matrix.ensures
 
-pub then-gain-spec : {M : Type 1} → statement M
-then-gain-spec = tie.close (tie.spec then-matrix-requires add-then-matrix then-matrix-requires-2 returns)
+pub then_gain_spec : {M : Type 1} → statement M
+then_gain_spec = tie.close (tie.spec then_matrix-k-requires overflow_add-i then_matrix-requires returns)

@@ -5,40 +5,40 @@ use borrow.Author.Rules.{rules}
 use Rattle.prediction_gates.proofs.of_both.Statement.{statement}
 use Rattle.prediction_gates.proofs.of_both.Tie as tie
 
-then-size-requires : tie.Need-then-size-requires
-then-size-requires c κs = search rules
+then_size-states-requires : tie.Need-then_size-states-requires
+then_size-states-requires c κs = search rules
 
-then-buffer-requires : tie.Need-then-buffer-requires
-then-buffer-requires c κs = search rules
+then_buffer-before_a-requires : tie.Need-then_buffer-before_a-requires
+then_buffer-before_a-requires c κs = search rules
 
-then-matrix-requires : tie.Need-then-matrix-requires
-then-matrix-requires c κs = search rules
+then_matrix-before_p-requires : tie.Need-then_matrix-before_p-requires
+then_matrix-before_p-requires c κs = search rules
 
-then-matrix-requires-2 : tie.Need-then-matrix-requires-2
-then-matrix-requires-2 c κs = search rules
+then_matrix-before_q-requires : tie.Need-then_matrix-before_q-requires
+then_matrix-before_q-requires c κs = search rules
 
-then-matrix-requires-3 : tie.Need-then-matrix-requires-3
-then-matrix-requires-3 c κs = search rules
+then_matrix-before_px-requires : tie.Need-then_matrix-before_px-requires
+then_matrix-before_px-requires c κs = search rules
 
-then-buffer-requires-2 : tie.Need-then-buffer-requires-2
-then-buffer-requires-2 c κs = search rules
+then_buffer-before_temp-requires : tie.Need-then_buffer-before_temp-requires
+then_buffer-before_temp-requires c κs = search rules
 
-then-matrix-requires-4 : tie.Need-then-matrix-requires-4
-then-matrix-requires-4 c κs = search rules
+then_matrix-requires : tie.Need-then_matrix-requires
+then_matrix-requires c κs = search rules
 
 returns : tie.Need-returns
 unfolding predict_answer
-returns c = asked _ (asked _ (asked _ (asked _ (asked _ (asked _ c.before.before.before.before.before.before.then-size.ensures c.before.before.before.before.before.then-buffer.ensures) c.before.before.before.before.then-matrix.ensures) c.before.before.before.then-matrix2.ensures) c.before.before.then-matrix3.ensures) c.before.then-buffer2.ensures) c.then-matrix4.ensures
+returns c = asked _ (asked _ (asked _ (asked _ (asked _ (asked _ c.then_size-states.ensures c.then_buffer-before_a.ensures) c.then_matrix-before_p.ensures) c.then_matrix-before_q.ensures) c.then_matrix-before_px.ensures) c.then_buffer-before_temp.ensures) c.then_matrix.ensures
 
-pub of-both-spec : {M : Type 1} → statement M
-of-both-spec =
+pub of_both_spec : {M : Type 1} → statement M
+of_both_spec =
     tie.close
     (tie.spec
-    then-size-requires
-    then-buffer-requires
-    then-matrix-requires
-    then-matrix-requires-2
-    then-matrix-requires-3
-    then-buffer-requires-2
-    then-matrix-requires-4
+    then_size-states-requires
+    then_buffer-before_a-requires
+    then_matrix-before_p-requires
+    then_matrix-before_q-requires
+    then_matrix-before_px-requires
+    then_buffer-before_temp-requires
+    then_matrix-requires
     returns)

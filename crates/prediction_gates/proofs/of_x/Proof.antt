@@ -5,28 +5,28 @@ use borrow.Author.Rules.{rules}
 use Rattle.prediction_gates.proofs.of_x.Statement.{statement}
 use Rattle.prediction_gates.proofs.of_x.Tie as tie
 
-then-size-requires : tie.Need-then-size-requires
-then-size-requires c κs = search rules
+then_size-states-requires : tie.Need-then_size-states-requires
+then_size-states-requires c κs = search rules
 
-then-buffer-requires : tie.Need-then-buffer-requires
-then-buffer-requires c κs = search rules
+then_buffer-before_a-requires : tie.Need-then_buffer-before_a-requires
+then_buffer-before_a-requires c κs = search rules
 
-then-matrix-requires : tie.Need-then-matrix-requires
-then-matrix-requires c κs = search rules
+then_matrix-before_px-requires : tie.Need-then_matrix-before_px-requires
+then_matrix-before_px-requires c κs = search rules
 
-then-buffer-requires-2 : tie.Need-then-buffer-requires-2
-then-buffer-requires-2 c κs = search rules
+then_buffer-requires : tie.Need-then_buffer-requires
+then_buffer-requires c κs = search rules
 
 returns : tie.Need-returns
 unfolding predict_x_answer
-returns c = asked _ (asked _ (asked _ c.before.before.before.then-size.ensures c.before.before.then-buffer.ensures) c.before.then-matrix.ensures) c.then-buffer2.ensures
+returns c = asked _ (asked _ (asked _ c.then_size-states.ensures c.then_buffer-before_a.ensures) c.then_matrix-before_px.ensures) c.then_buffer.ensures
 
-pub of-x-spec : {M : Type 1} → statement M
-of-x-spec =
+pub of_x_spec : {M : Type 1} → statement M
+of_x_spec =
     tie.close
     (tie.spec
-    then-size-requires
-    then-buffer-requires
-    then-matrix-requires
-    then-buffer-requires-2
+    then_size-states-requires
+    then_buffer-before_a-requires
+    then_matrix-before_px-requires
+    then_buffer-requires
     returns)

@@ -34,7 +34,7 @@ returns-then-s-eq8388608 c = at_least 24 _ _ (lit≤ tt) (omega (arith, c.if-n-s
 returns-else-s-eq8388608 : tie.Need-returns-else-s-eq8388608
 returns-else-s-eq8388608 c =
     ne_eqb _ 8388608 c.if-s-eq8388608.false
-    ∙ out_of_range 24 _ _ (λ l m. ⊎_elim (λ w. lt_irrefl _ (lt_of_lt_of_le m (ltb-false _ _ w.1.left))) (λ w. lt_irrefl _ (lt_of_lt_of_le l w.left)) c.else-s-gt8388608.branch) c.if-s-eq8388608.false
+    ∙ out_of_range 24 _ _ (λ l m. ⊎_elim (λ w. lt_irrefl _ (lt_of_lt_of_le m w.1)) (λ w. lt_irrefl _ (lt_of_lt_of_le l w)) c.else-s-gt8388608.either) c.if-s-eq8388608.false
 
 pub accepts_root_spec : {M : Type 1} → statement M
 accepts_root_spec =

@@ -5,6 +5,7 @@ use mathlib.Core.Logic.{⊎_elim}
 use lib.Dec.{lit≤}
 use Rattle.root_entries.proofs.Loop.{Turn, first, sum_room, square_room, halved, up, stay, last}
 use Rattle.root_entries.proofs.by_digits.Statement.{statement}
+use Rattle.root_entries.proofs.by_digits.Lts.{then-t-n, else-t-n}
 use Rattle.root_entries.proofs.by_digits.Tie as tie
 
 abbrev invariant-loop : tie.invariant-loop-b
@@ -29,7 +30,7 @@ loop-b-preserved : tie.Need-loop-b-preserved invariant-loop decreases-loop
 loop-b-preserved c =
     let t = c.loop-b.invariant in
     let h : 0 < c.loop-b.b = omega (arith, c.loop-b-test.true) in
-    ⊎_elim (λ w. rw w.1 (up 24 _ _ _ t h w.0.taken)) (λ w. rw w.1 (stay 24 _ _ _ t h w.0.left)) c.if-t-n.branch
+    elim c.if-t-n.branch [ then-t-n w ↦ rw w.r-is (up 24 _ _ _ t h w.if-t-n.true) | else-t-n w ↦ rw w.r-is (stay 24 _ _ _ t h w.if-t-n.false) ]
 
 returns : tie.Need-returns invariant-loop decreases-loop
 returns c = last 24 _ _ _ c.loop-b.invariant (omega (arith, c.loop-b-test.false))

@@ -9,24 +9,24 @@ use Rattle.entries.proofs.Totals.{AddingFour, zero_bits, four_begun, four_in_row
 use Rattle.row_chunks.proofs.one_chunk.Statement.{statement}
 use Rattle.row_chunks.proofs.one_chunk.Tie as tie
 
-abbrev invariant-loop : tie.invariant-loop
+abbrev invariant-loop : tie.invariant-loop-k
 invariant-loop inner cols a b r row t₀ k₀ t k = AddingFour binary32 (cell inner a r) b (λ i k. k * cols + i) inner 0 t.t0 t.t1 t.t2 t.t3 k
 
-abbrev decreases-loop : tie.decreases-loop
+abbrev decreases-loop : tie.decreases-loop-k
 decreases-loop inner cols a b r row t₀ k₀ t k = inner - k
 
 -- row k lies in b
-in_b : (c : tie.In-loop invariant-loop decreases-loop) → let m = c.before.before.before.before.args in c.before.loop.k * m.cols + m.cols ≤ length m.b.now
-in_b c = let m = c.before.before.before.before.args in omega (arith, row_in m.inner m.cols c.before.loop.k c.loop-test.true)
+in_b : (c : tie.In-loop-k invariant-loop decreases-loop) → let m = c.args in c.loop-k.k * m.cols + m.cols ≤ length m.b.now
+in_b c = let m = c.args in omega (arith, row_in m.inner m.cols c.loop-k.k c.loop-k-test.true)
 
-loop-again : tie.Need-loop-preserved invariant-loop decreases-loop
-loop-again c =
+loop-k-preserved : tie.Need-loop-k-preserved invariant-loop decreases-loop
+loop-k-preserved c =
     let top = c.before.before.before in
-    let m = top.before.before.before.args in
-    four_in_row m.cols top.loop.invariant c.before.before.loop-test.true c.more.ensures (omega arith)
+    let m = top.args in
+    four_in_row m.cols top.loop-k.invariant c.loop-k-test.true c.more-t.ensures (omega arith)
 
-pub one-chunk-spec : {M : Type 1} → statement M
-one-chunk-spec =
+pub one_chunk_spec : {M : Type 1} → statement M
+one_chunk_spec =
     tie.close
     (tie.spec
     invariant-loop
@@ -40,5 +40,5 @@ one-chunk-spec =
     (λ c κs. omega (arith, in_b c.before))
     (λ c. omega arith)
     (λ c. omega arith)
-    loop-again
-    (λ c. all_four c.before.loop.invariant c.loop-test.false))
+    loop-k-preserved
+    (λ c. all_four c.loop-k.invariant c.loop-k-test.false))

@@ -10,47 +10,47 @@ use Rattle.entries.proofs.Totals.{AddingFour, zero_bits, four_begun, four_in_row
 use Rattle.row_chunks.proofs.three_chunks.Statement.{statement}
 use Rattle.row_chunks.proofs.three_chunks.Tie as tie
 
-abbrev invariant-loop : tie.invariant-loop
+abbrev invariant-loop : tie.invariant-loop-k
 invariant-loop inner cols a b r last row t0₀ t1₀ t2₀ k₀ t0 t1 t2 k =
     AddingFour binary32 (cell inner a r) b (λ i k. k * cols + i) inner 0 t0.t0 t0.t1 t0.t2 t0.t3 k
     × AddingFour binary32 (cell inner a r) b (λ i k. k * cols + i) inner 4 t1.t0 t1.t1 t1.t2 t1.t3 k
     × AddingFour binary32 (cell inner a r) b (λ i k. k * cols + i) inner last t2.t0 t2.t1 t2.t2 t2.t3 k
 
-abbrev decreases-loop : tie.decreases-loop
+abbrev decreases-loop : tie.decreases-loop-k
 decreases-loop inner cols a b r last row t0₀ t1₀ t2₀ k₀ t0 t1 t2 k = inner - k
 
 -- row k lies in b
-in_b : (c : tie.In-loop invariant-loop decreases-loop) → let m = c.before.before.before.before.args in c.before.loop.k * m.cols + m.cols ≤ length m.b.now
-in_b c = let m = c.before.before.before.before.args in omega (arith, row_in m.inner m.cols c.before.loop.k c.loop-test.true)
+in_b : (c : tie.In-loop-k invariant-loop decreases-loop) → let m = c.args in c.loop-k.k * m.cols + m.cols ≤ length m.b.now
+in_b c = let m = c.args in omega (arith, row_in m.inner m.cols c.loop-k.k c.loop-k-test.true)
 
-loop-holds : tie.Need-loop-init invariant-loop decreases-loop
-loop-holds c =
+loop-k-init : tie.Need-loop-k-init invariant-loop decreases-loop
+loop-k-init c =
     (four_begun zero_bits zero_bits zero_bits zero_bits, four_begun zero_bits zero_bits zero_bits zero_bits, four_begun zero_bits zero_bits zero_bits zero_bits)
 
-loop-again : tie.Need-loop-preserved invariant-loop decreases-loop
-loop-again c =
+loop-k-preserved : tie.Need-loop-k-preserved invariant-loop decreases-loop
+loop-k-preserved c =
     let top = c.before.before.before.before.before in
-    let m = top.before.before.before.args.cols in
-    let in_turn = c.before.before.before.before.loop-test.true in (
-      four_in_row m top.loop.invariant.0 in_turn c.before.before.more.ensures (omega arith),
-      four_in_row m top.loop.invariant.1 in_turn c.before.more2.ensures refl,
-      four_in_row m top.loop.invariant.2 in_turn c.more3.ensures refl,
+    let m = top.args.cols in
+    let in_turn = c.loop-k-test.true in (
+      four_in_row m top.loop-k.invariant.0 in_turn c.more-t0.ensures (omega arith),
+      four_in_row m top.loop-k.invariant.1 in_turn c.more-t1.ensures refl,
+      four_in_row m top.loop-k.invariant.2 in_turn c.more-t2.ensures refl,
     )
 
 returns : tie.Need-returns invariant-loop decreases-loop
 returns c =
-    let top = c.before.loop.invariant in
-    let done = c.loop-test.false in
+    let top = c.loop-k.invariant in
+    let done = c.loop-k-test.false in
     (all_four top.0 done, all_four top.1 done, all_four top.2 done)
 
-pub three-chunks-spec : {M : Type 1} → statement M
-three-chunks-spec =
+pub three_chunks_spec : {M : Type 1} → statement M
+three_chunks_spec =
     tie.close
     (tie.spec
     invariant-loop
     decreases-loop
     (λ c. omega arith)
-    loop-holds
+    loop-k-init
     (λ c. omega arith)
     (λ c. omega arith)
     (λ c. omega arith)
@@ -62,5 +62,5 @@ three-chunks-spec =
     (λ c κs. omega (arith, in_b c.before.before.before))
     (λ c. omega arith)
     (λ c. omega arith)
-    loop-again
+    loop-k-preserved
     returns)

@@ -13,16 +13,16 @@ returns : tie.Need-returns
 returns c =
     let top = c.before.before.before.before.before.before.before.before.before.before.before.before.before.before.before.before.before.before.before.before in
     let m = top.args in
-    let t = c.before.before.before.before.before.before.before.before.before.before.before.before.before.before.before.before.four-chunks in
+    let t = c.four_chunks-t in
     sixteen_put (m.r * m.cols) m.cols (product binary32 m.inner m.cols m.a.now m.b.now m.r) m.c.now t.result.f0 t.result.f1 t.result.f2 t.result.f3
     top.requires.0 top.requires.1 refl t.ensures
-    c.before.before.before.before.before.before.before.before.before.before.before.before.before.before.put.ensures
-    c.before.before.before.before.before.before.before.before.before.before.put2.ensures
-    c.before.before.before.before.before.before.put3.ensures
-    c.before.before.put4.ensures
+    c.put.ensures
+    c.put-2.ensures
+    c.put-3.ensures
+    c.put-4.ensures
 
-pub last-row-spec : {M : Type 1} → statement M
-last-row-spec =
+pub last_row_spec : {M : Type 1} → statement M
+last_row_spec =
     tie.close
     (tie.spec
     (λ c. search rules)

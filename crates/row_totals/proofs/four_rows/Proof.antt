@@ -9,20 +9,20 @@ use Rattle.entries.proofs.Totals.{AddingFour, zero_bits, four_begun, four_added,
 use Rattle.row_totals.proofs.four_rows.Statement.{statement}
 use Rattle.row_totals.proofs.four_rows.Tie as tie
 
-abbrev invariant-loop : tie.invariant-loop
+abbrev invariant-loop : tie.invariant-loop-k
 invariant-loop inner a b r j left right t₀ k₀ t k = AddingFour binary32 (cell inner a r) b (λ i k. i * inner + k) inner j t.t0 t.t1 t.t2 t.t3 k
 
-abbrev decreases-loop : tie.decreases-loop
+abbrev decreases-loop : tie.decreases-loop-k
 decreases-loop inner a b r j left right t₀ k₀ t k = inner - k
 
-loop-again : tie.Need-loop-preserved invariant-loop decreases-loop
-loop-again c =
+loop-k-preserved : tie.Need-loop-k-preserved invariant-loop decreases-loop
+loop-k-preserved c =
     let top = c.before.before.before.before in
-    let m = top.before.before.before.args in
-    four_added top.loop.invariant c.before.before.before.loop-test.true c.plus.ensures c.before.times.ensures (rows m.inner m.j top.loop.k _ refl)
+    let m = top.args in
+    four_added top.loop-k.invariant c.loop-k-test.true c.plus-t.ensures c.times.ensures (rows m.inner m.j top.loop-k.k _ refl)
 
-pub four-rows-spec : {M : Type 1} → statement M
-four-rows-spec =
+pub four_rows_spec : {M : Type 1} → statement M
+four_rows_spec =
     tie.close
     (tie.spec
     invariant-loop
@@ -38,5 +38,5 @@ four-rows-spec =
     (λ c κs. tt)
     (λ c. omega arith)
     (λ c. omega arith)
-    loop-again
-    (λ c. all_four c.before.loop.invariant c.loop-test.false))
+    loop-k-preserved
+    (λ c. all_four c.loop-k.invariant c.loop-k-test.false))

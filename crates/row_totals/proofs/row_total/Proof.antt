@@ -9,17 +9,17 @@ use Rattle.entries.proofs.Totals.{Adding, zero_bits, begun, added, all_added}
 use Rattle.row_totals.proofs.row_total.Statement.{statement}
 use Rattle.row_totals.proofs.row_total.Tie as tie
 
-abbrev invariant-loop : tie.invariant-loop
+abbrev invariant-loop : tie.invariant-loop-k
 invariant-loop inner a b r j left right total₀ k₀ total k = Adding binary32 plus0 (products binary32 (cell inner a r) (cell inner b j)) inner total k
 
-abbrev decreases-loop : tie.decreases-loop
+abbrev decreases-loop : tie.decreases-loop-k
 decreases-loop inner a b r j left right total₀ k₀ total k = inner - k
 
-loop-again : tie.Need-loop-preserved invariant-loop decreases-loop
-loop-again c = added c.before.before.before.loop.invariant c.before.before.loop-test.true refl refl
+loop-k-preserved : tie.Need-loop-k-preserved invariant-loop decreases-loop
+loop-k-preserved c = added c.loop-k.invariant c.loop-k-test.true refl refl
 
-pub row-total-spec : {M : Type 1} → statement M
-row-total-spec =
+pub row_total_spec : {M : Type 1} → statement M
+row_total_spec =
     tie.close
     (tie.spec
     invariant-loop
@@ -35,5 +35,5 @@ row-total-spec =
     (λ c. omega arith)
     (λ c. omega arith)
     (λ c. omega arith)
-    loop-again
-    (λ c. all_added c.before.loop.invariant c.loop-test.false))
+    loop-k-preserved
+    (λ c. all_added c.loop-k.invariant c.loop-k-test.false))

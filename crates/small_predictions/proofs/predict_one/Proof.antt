@@ -10,10 +10,10 @@ use Rattle.small_predictions.proofs.predict_one.Tie as tie
 
 returns : tie.Need-returns
 unfolding run grid sum_from of_bits
-returns c = (refl, (refl, (ap (set c.before.before.before.before.before.before.before.before.before.before.before.args.p.now 0) c.one_more.ensures, refl)))
+returns c = (refl, (refl, (ap (set c.args.p.now 0) c.one_more-n00.ensures, refl)))
 
-pub predict-one-spec : {M : Type 1} → statement M
-predict-one-spec =
+pub predict_one_spec : {M : Type 1} → statement M
+predict_one_spec =
     tie.close
     (tie.spec
     (λ c. omega arith)

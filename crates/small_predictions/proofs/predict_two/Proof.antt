@@ -9,7 +9,7 @@ use Rattle.small_predictions.proofs.predict_two.Statement.{statement}
 use Rattle.small_predictions.proofs.predict_two.Tie as tie
 
 -- where the function began, from the last of P's numbers
-abbrev start : tie.After-two-more4 → tie.Start
+abbrev start : tie.After-two_more-n11 → tie.Start
 start c = c.before.before.before.before.before.before.before.before.before.before.before.before.before.before.before.before.before.before.before.before.before.before.before.before
 
 returns : tie.Need-returns
@@ -23,16 +23,16 @@ returns c =
     let m = (start n).args in (
       x.put_two.ensures,
       (
-        predicted.put-two2.ensures,
+        predicted.put_two-2.ensures,
         (
-          P-left m.a.now m.p.now m.q.now m.p.now _ p.put-four2.ensures n.before.before.before.two-more.ensures n.before.before.two-more2.ensures n.before.two-more3.ensures n.two-more4.ensures,
+          P-left m.a.now m.p.now m.q.now m.p.now _ p.put_four-2.ensures n.two_more-n00.ensures n.two_more-n01.ensures n.two_more-n10.ensures n.two_more-n11.ensures,
           temp_left m.a.now m.p.now m.temp.now _ temp.put_four.ensures,
         ),
       ),
     )
 
-pub predict-two-spec : {M : Type 1} → statement M
-predict-two-spec =
+pub predict_two_spec : {M : Type 1} → statement M
+predict_two_spec =
     tie.close
     (tie.spec
     (λ c. omega arith)
@@ -57,8 +57,8 @@ predict-two-spec =
     (λ c κs. (start c.before.before.before.before.before).requires.4)
     (λ c κs. (start c.before.before.before.before.before.before.before.before.before).requires.5)
     (λ c κs. (start c.before.before.before.before.before.before.before.before.before.before.before.before.before).requires.2)
-    (λ c. c.before.before.before.before.before.before.before.before.before.before.before.before.before.x.given)
-    (λ c. c.before.p.given)
-    (λ c. c.before.before.before.before.before.before.before.before.before.predicted.given)
-    (λ c. c.before.before.before.before.before.temp.given)
+    (λ c. c.x-1.given)
+    (λ c. c.p-1.given)
+    (λ c. c.predicted-1.given)
+    (λ c. c.temp-1.given)
     returns)

@@ -8,25 +8,25 @@ use Rattle.grids.proofs.Shapes.{pair_fits}
 use Rattle.sums.proofs.add_inplace_b.Statement.{statement}
 use Rattle.sums.proofs.add_inplace_b.Tie as tie
 
-add-cells-a-requires : tie.Need-add-cells-a-requires
-add-cells-a-requires c κs =
-    let s = pair_fits _ _ _ _ c.before.before.before.pair.ensures c.before.before.is-done.ensures c.before.if1.true in
+add_cells_a-requires : tie.Need-add_cells_a-requires
+add_cells_a-requires c κs =
+    let s = pair_fits _ _ _ _ c.pair-v.ensures c.is_done.ensures c.if-is_done.true in
     (s.both_hold.1, s.both_hold.0)
 
-returns : tie.Need-returns
-returns c =
+returns-then-is_done : tie.Need-returns-then-is_done
+returns-then-is_done c =
     let t = c.before.before.before.before in
-    let m = t.before.before.before.before.before.args in
-    stored_in t.before.before.pair.ensures t.before.is-done.ensures t.if1.true (c.before.before.add-cells-a.ensures ∙ added_right binary32 _ m.a.now m.b.now m.b.now)
+    let m = t.args in
+    stored_in t.pair-v.ensures t.is_done.ensures t.if-is_done.true (c.add_cells_a.ensures ∙ added_right binary32 _ m.a.now m.b.now m.b.now)
 
-pub add-inplace-b-spec : {M : Type 1} → statement M
-add-inplace-b-spec =
+pub add_inplace_b_spec : {M : Type 1} → statement M
+add_inplace_b_spec =
     tie.close
     (tie.spec
     (λ c κs. search rules)
     (λ c κs. search rules)
-    (λ c. omega (arith, pair_fits _ _ _ _ c.before.before.pair.ensures c.before.is-done.ensures c.if1.true))
-    add-cells-a-requires
+    (λ c. omega (arith, pair_fits _ _ _ _ c.pair-v.ensures c.is_done.ensures c.if-is_done.true))
+    add_cells_a-requires
     (λ c. search rules)
-    returns
-    (λ c. left_in c.before.before.pair.ensures c.before.is-done.ensures c.if1.false))
+    returns-then-is_done
+    (λ c. left_in c.pair-v.ensures c.is_done.ensures c.if-is_done.false))

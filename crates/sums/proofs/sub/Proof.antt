@@ -13,22 +13,22 @@ use Rattle.sums.proofs.sub.Statement.{statement}
 use Rattle.sums.proofs.sub.Tie as tie
 
 -- the tests are those of the definition
-answered : (c : tie.After-then-matrix) → let a = c.before.before.before.before.before.args in c.then-matrix.result ≡ triple_answer a.rows a.cols (length a.a.now) (length a.b.now) (length a.c.now)
+answered : (c : tie.After-then_matrix-v) → let a = c.args in c.then_matrix-v.result ≡ triple_answer a.rows a.cols (length a.a.now) (length a.b.now) (length a.c.now)
 unfolding pair_answer triple_answer
-answered c = asked _ c.before.pair.ensures c.then-matrix.ensures
+answered c = asked _ c.pair-operands.ensures c.then_matrix-v.ensures
 
 -- the sizes are taken and the buffers hold the matrices
-shapes : (c : tie.Then1) → let a = c.before.before.before.before.before.before.before.args in Three a.rows a.cols (length a.a.now) (length a.b.now) (length a.c.now)
-shapes c = triple_fits _ _ _ _ _ (answered c.before.before) c.before.is-done.ensures c.if1.true
+shapes : (c : tie.Then-is_done) → let a = c.args in Three a.rows a.cols (length a.a.now) (length a.b.now) (length a.c.now)
+shapes c = triple_fits _ _ _ _ _ (answered c.before.before) c.is_done.ensures c.if-is_done.true
 
-returns : tie.Need-returns
-returns c =
+returns-then-is_done : tie.Need-returns-then-is_done
+returns-then-is_done c =
     let t = c.before.before.before.before in
     let e = answered t.before.before in
-    record { answer = e; after = written_by _ e t.before.is-done.ensures t.if1.true (c.before.before.sub_cells.ensures ∙ sym (grid_flat _ _ _ _)) }
+    record { answer = e; after = written_by _ e t.is_done.ensures t.if-is_done.true (c.sub_cells.ensures ∙ sym (grid_flat _ _ _ _)) }
 
-returns-2 : tie.Need-returns-2
-returns-2 c = let e = answered c.before.before in record { answer = e; after = kept_by _ e c.before.is-done.ensures c.if1.false }
+returns-else-is_done : tie.Need-returns-else-is_done
+returns-else-is_done c = let e = answered c.before.before in record { answer = e; after = kept_by _ e c.is_done.ensures c.if-is_done.false }
 
 pub sub_spec : {M : Type 1} → statement M
 sub_spec =
@@ -40,5 +40,5 @@ sub_spec =
     (λ c. omega (arith, shapes c))
     (λ c κs. (shapes c.before).all_hold)
     (λ c. search rules)
-    returns
-    returns-2)
+    returns-then-is_done
+    returns-else-is_done)

@@ -6,17 +6,17 @@ use Rattle.grids.proofs.Shapes.{pair_fits}
 use Rattle.sums.proofs.sub_inplace_a.Statement.{statement}
 use Rattle.sums.proofs.sub_inplace_a.Tie as tie
 
-returns : tie.Need-returns
-returns c = let t = c.before.before.before.before in stored_in t.before.before.pair.ensures t.before.is-done.ensures t.if1.true c.before.before.sub-cells-a.ensures
+returns-then-is_done : tie.Need-returns-then-is_done
+returns-then-is_done c = let t = c.before.before.before.before in stored_in t.pair-v.ensures t.is_done.ensures t.if-is_done.true c.sub_cells_a.ensures
 
-pub sub-inplace-a-spec : {M : Type 1} → statement M
-sub-inplace-a-spec =
+pub sub_inplace_a_spec : {M : Type 1} → statement M
+sub_inplace_a_spec =
     tie.close
     (tie.spec
     (λ c κs. search rules)
     (λ c κs. search rules)
-    (λ c. omega (arith, pair_fits _ _ _ _ c.before.before.pair.ensures c.before.is-done.ensures c.if1.true))
-    (λ c κs. (pair_fits _ _ _ _ c.before.before.before.pair.ensures c.before.before.is-done.ensures c.before.if1.true).both_hold)
+    (λ c. omega (arith, pair_fits _ _ _ _ c.pair-v.ensures c.is_done.ensures c.if-is_done.true))
+    (λ c κs. (pair_fits _ _ _ _ c.pair-v.ensures c.is_done.ensures c.if-is_done.true).both_hold)
     (λ c. search rules)
-    returns
-    (λ c. left_in c.before.before.pair.ensures c.before.is-done.ensures c.if1.false))
+    returns-then-is_done
+    (λ c. left_in c.pair-v.ensures c.is_done.ensures c.if-is_done.false))

@@ -12,15 +12,15 @@ use Rattle.thin_products.proofs.put_some.Statement.{statement}
 use Rattle.thin_products.proofs.put_some.Tie as tie
 
 -- one or two are stored
-some_put : (c : tie.Joined1) → let m = c.before.args in Writing m.at m.cols (number_at m.t) m.c.now c.if1.c (min m.cols 2)
-some_put c = law.some-put c.before.requires.0 refl refl (⊎_elim (λ s. inl (s.0.taken, s.1)) (λ s. inr (s.0.left, s.1)) c.if1.branch)
+some_put : (c : tie.Joined-cols-ge2) → let m = c.args in Writing m.at m.cols (number_at m.t) m.c.now c.if-cols-ge2.c (min m.cols 2)
+some_put c = law.some_put c.requires.0 refl refl (⊎_elim (λ s. inl (s.0.taken, s.1)) (λ s. inr (s.0.left, s.1)) c.if-cols-ge2.branch)
 
 -- and the third
-third_put : (c : tie.Then2) → let m = c.before.before.args in Writing m.at m.cols (number_at m.t) m.c.now (set c.before.if1.c (m.at + 2) m.t.t2) 3
-third_put c = law.third-put c.if2.true refl (some_put c.before)
+third_put : (c : tie.Then-cols-ge3) → let m = c.args in Writing m.at m.cols (number_at m.t) m.c.now (set c.if-cols-ge2.c (m.at + 2) m.t.t2) 3
+third_put c = law.third_put c.if-cols-ge3.true refl (some_put c.before)
 
-pub put-some-spec : {M : Type 1} → statement M
-put-some-spec =
+pub put_some_spec : {M : Type 1} → statement M
+put_some_spec =
     tie.close
     (tie.spec
     (λ c. search rules)
@@ -32,6 +32,6 @@ put-some-spec =
     (λ c. search rules)
     (λ c. omega (arith, (some_put c.before).size))
     (λ c. (third_put c).size)
-    (λ c. all_written (third_put c) c.before.before.requires.1)
+    (λ c. all_written (third_put c) c.requires.1)
     (λ c. (some_put c.before).size)
     (λ c. all_written (some_put c.before) (omega arith)))

@@ -11,18 +11,18 @@ use Rattle.entries.specs.Entries.{row_product}
 use Rattle.times_vector.proofs.by_six.Statement.{statement}
 use Rattle.times_vector.proofs.by_six.Tie as tie
 
-abbrev invariant-loop : tie.invariant-loop
+abbrev invariant-loop : tie.invariant-loop-r
 invariant-loop rows a x c₀ x0 x1 x2 x3 x4 x5 r₀ c r = Writing 0 rows (row_product binary32 6 a x) c₀ c r
 
-abbrev decreases-loop : tie.decreases-loop
+abbrev decreases-loop : tie.decreases-loop-r
 decreases-loop rows a x c₀ x0 x1 x2 x3 x4 x5 r₀ c r = rows - r
 
-loop-again : tie.Need-loop-preserved invariant-loop decreases-loop
+loop-r-preserved : tie.Need-loop-r-preserved invariant-loop decreases-loop
 unfolding sum_from
-loop-again c = one_more c.before.before.before.before.before.before.before.loop.invariant c.before.before.before.before.before.before.loop-test.true (sym (zero-add _)) refl (rw add-zero)
+loop-r-preserved c = one_more c.loop-r.invariant c.loop-r-test.true (sym (zero-add _)) refl (rw add-zero)
 
-pub by-six-spec : {M : Type 1} → statement M
-by-six-spec =
+pub by_six_spec : {M : Type 1} → statement M
+by_six_spec =
     tie.close
     (tie.spec
     invariant-loop
@@ -56,6 +56,6 @@ by-six-spec =
     (λ c. omega arith)
     (λ c. omega arith)
     (λ c. omega arith)
-    loop-again
-    (λ c. c.before.loop.invariant.size)
-    (λ c. all_written c.before.loop.invariant c.loop-test.false))
+    loop-r-preserved
+    (λ c. c.loop-r.invariant.size)
+    (λ c. all_written c.loop-r.invariant c.loop-r-test.false))

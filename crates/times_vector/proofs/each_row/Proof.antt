@@ -12,44 +12,44 @@ use Rattle.entries.proofs.Places.{rows_in}
 use Rattle.times_vector.proofs.each_row.Statement.{statement}
 use Rattle.times_vector.proofs.each_row.Tie as tie
 
-abbrev invariant-loop : tie.invariant-loop
+abbrev invariant-loop : tie.invariant-loop-r
 invariant-loop rows inner a x c₀ r₀ c r = Writing 0 rows (row_product binary32 inner a x) c₀ c r
 
-abbrev decreases-loop : tie.decreases-loop
+abbrev decreases-loop : tie.decreases-loop-r
 decreases-loop rows inner a x c₀ r₀ c r = rows - r
 
-abbrev invariant-loop2 : tie.invariant-loop2
+abbrev invariant-loop2 : tie.invariant-loop-r-2
 invariant-loop2 rows inner a x c₀ r₀ c r = Onward 0 rows (λ z. (row_product binary32 inner a x)) c₀ r₀ c r
 
-abbrev decreases-loop2 : tie.decreases-loop2
+abbrev decreases-loop2 : tie.decreases-loop-r-2
 decreases-loop2 rows inner a x c₀ r₀ c r = rows - r
 
-four-from-first-requires : tie.Need-four-from-first-requires invariant-loop decreases-loop invariant-loop2 decreases-loop2
-four-from-first-requires c κs =
-    let m = c.before.before.before.before.before.before.args in
-    omega (arith, rows_in m.rows m.inner c.before.before.loop.r c.before.loop-test.true)
+four_from_first-requires : tie.Need-four_from_first-requires invariant-loop decreases-loop invariant-loop2 decreases-loop2
+four_from_first-requires c κs =
+    let m = c.args in
+    omega (arith, rows_in m.rows m.inner c.loop-r.r c.loop-r-test.true)
 
-loop-again : tie.Need-loop-preserved invariant-loop decreases-loop invariant-loop2 decreases-loop2
-loop-again c =
-    let t = c.before.before.before.four-from-first.ensures in
-    four_more c.before.before.before.before.before.before.loop.invariant c.before.before.before.before.before.loop-test.true (sym (zero-add _)) t c.before.before.put.ensures
+loop-r-preserved : tie.Need-loop-r-preserved invariant-loop decreases-loop invariant-loop2 decreases-loop2
+loop-r-preserved c =
+    let t = c.four_from_first.ensures in
+    four_more c.loop-r.invariant c.loop-r-test.true (sym (zero-add _)) t c.put.ensures
 
-total-from-first-requires : tie.Need-total-from-first-requires invariant-loop decreases-loop invariant-loop2 decreases-loop2
-total-from-first-requires c κs =
-    let m = c.before.before.before.before.before.before.before.args in
-    omega (arith, row_in m.rows m.inner c.before.loop2.r c.loop2-test.true)
+total_from_first-requires : tie.Need-total_from_first-requires invariant-loop decreases-loop invariant-loop2 decreases-loop2
+total_from_first-requires c κs =
+    let m = c.args in
+    omega (arith, row_in m.rows m.inner c.loop-r-2.r c.loop-r-2-test.true)
 
-loop2-again : tie.Need-loop2-preserved invariant-loop decreases-loop invariant-loop2 decreases-loop2
-loop2-again c = one_onward c.before.before.loop2.invariant c.before.loop2-test.true (sym (zero-add _)) (λ z w. c.total-from-first.ensures)
+loop-r-2-preserved : tie.Need-loop-r-2-preserved invariant-loop decreases-loop invariant-loop2 decreases-loop2
+loop-r-2-preserved c = one_onward c.loop-r-2.invariant c.loop-r-2-test.true (sym (zero-add _)) (λ z w. c.total_from_first.ensures)
 
-same_length : tie.Need-same-length invariant-loop decreases-loop invariant-loop2 decreases-loop2
-same_length c = c.before.loop2.invariant.size ∙ c.before.before.before.loop.invariant.size
+shape_of-c : tie.Need-shape_of-c invariant-loop decreases-loop invariant-loop2 decreases-loop2
+shape_of-c c = c.loop-r-2.invariant.size ∙ c.loop-r.invariant.size
 
 returns : tie.Need-returns invariant-loop decreases-loop invariant-loop2 decreases-loop2
-returns c = all_onward c.before.before.before.loop.invariant c.before.loop2.invariant c.loop2-test.false
+returns c = all_onward c.loop-r.invariant c.loop-r-2.invariant c.loop-r-2-test.false
 
-pub each-row-spec : {M : Type 1} → statement M
-each-row-spec =
+pub each_row_spec : {M : Type 1} → statement M
+each_row_spec =
     tie.close
     (tie.spec
     invariant-loop
@@ -58,17 +58,17 @@ each-row-spec =
     decreases-loop2
     (λ c. begun)
     (λ c. omega arith)
-    four-from-first-requires
+    four_from_first-requires
     (λ c κs. omega arith)
     (λ c. omega arith)
     (λ c. omega arith)
-    loop-again
-    (λ c. onward c.before.loop.invariant.within)
-    total-from-first-requires
+    loop-r-preserved
+    (λ c. onward c.loop-r.invariant.within)
+    total_from_first-requires
     (λ c. omega arith)
     (λ c. omega arith)
     (λ c. omega arith)
     (λ c. omega arith)
-    loop2-again
-    same_length
+    loop-r-2-preserved
+    shape_of-c
     returns)

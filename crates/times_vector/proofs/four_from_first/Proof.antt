@@ -12,22 +12,22 @@ use Rattle.entries.proofs.Totals.{AddingOn, left_at, begun_on, added_on, all_add
 use Rattle.times_vector.proofs.four_from_first.Statement.{statement}
 use Rattle.times_vector.proofs.four_from_first.Tie as tie
 
-abbrev invariant-loop : tie.invariant-loop
+abbrev invariant-loop : tie.invariant-loop-k
 invariant-loop inner a x r row t₀ k₀ t k =
     AddingOn binary32 (products binary32 (cell inner a r) (λ i. get_or x i nan)) inner t.t0 k
     × AddingOn binary32 (products binary32 (cell inner a (r + 1)) (λ i. get_or x i nan)) inner t.t1 k
     × AddingOn binary32 (products binary32 (cell inner a (r + 2)) (λ i. get_or x i nan)) inner t.t2 k
     × AddingOn binary32 (products binary32 (cell inner a (r + 3)) (λ i. get_or x i nan)) inner t.t3 k
 
-abbrev decreases-loop : tie.decreases-loop
+abbrev decreases-loop : tie.decreases-loop-k
 decreases-loop inner a x r row t₀ k₀ t k = inner - k
 
-loop-holds : tie.Need-loop-init invariant-loop decreases-loop
-loop-holds c =
-    let m = c.before.before.before.before.args in
-    let some = c.before.before.before.before.requires.0 in
+loop-k-init : tie.Need-loop-k-init invariant-loop decreases-loop
+loop-k-init c =
+    let m = c.args in
+    let some = c.requires.0 in
     let y = get_or m.x.now 0 nan in
-    let u = c.times.ensures in
+    let u = c.times-t.ensures in
     let p = rows m.inner m.r 0 (m.r * m.inner) (sym (add-zero _)) in (
       begun_on some (u.0 ∙ left_at binary32 y m.a.now p.first),
       begun_on some (u.1 ∙ left_at binary32 y m.a.now p.second),
@@ -35,30 +35,30 @@ loop-holds c =
       begun_on some (u.3 ∙ left_at binary32 y m.a.now p.fourth),
     )
 
-loop-again : tie.Need-loop-preserved invariant-loop decreases-loop
-loop-again c =
+loop-k-preserved : tie.Need-loop-k-preserved invariant-loop decreases-loop
+loop-k-preserved c =
     let top = c.before.before.before.before in
-    let m = top.before.before.before.before.before.args in
-    let k = top.loop.k in
+    let m = top.args in
+    let k = top.loop-k.k in
     let x = get_or m.x.now k nan in
-    let s = c.plus.ensures in
-    let u = c.before.times2.ensures in
-    let in_turn = c.before.before.before.loop-test.true in
+    let s = c.plus-t.ensures in
+    let u = c.times.ensures in
+    let in_turn = c.loop-k-test.true in
     let p = rows m.inner m.r k _ refl in (
-      added_on top.loop.invariant.0 in_turn s.0 (u.0 ∙ left_at binary32 x m.a.now p.first),
-      added_on top.loop.invariant.1 in_turn s.1 (u.1 ∙ left_at binary32 x m.a.now p.second),
-      added_on top.loop.invariant.2 in_turn s.2 (u.2 ∙ left_at binary32 x m.a.now p.third),
-      added_on top.loop.invariant.3 in_turn s.3 (u.3 ∙ left_at binary32 x m.a.now p.fourth),
+      added_on top.loop-k.invariant.0 in_turn s.0 (u.0 ∙ left_at binary32 x m.a.now p.first),
+      added_on top.loop-k.invariant.1 in_turn s.1 (u.1 ∙ left_at binary32 x m.a.now p.second),
+      added_on top.loop-k.invariant.2 in_turn s.2 (u.2 ∙ left_at binary32 x m.a.now p.third),
+      added_on top.loop-k.invariant.3 in_turn s.3 (u.3 ∙ left_at binary32 x m.a.now p.fourth),
     )
 
 returns : tie.Need-returns invariant-loop decreases-loop
 returns c =
-    let top = c.before.loop.invariant in
-    let done = c.loop-test.false in
+    let top = c.loop-k.invariant in
+    let done = c.loop-k-test.false in
     (all_added_on top.0 done, all_added_on top.1 done, all_added_on top.2 done, all_added_on top.3 done)
 
-pub four-from-first-spec : {M : Type 1} → statement M
-four-from-first-spec =
+pub four_from_first_spec : {M : Type 1} → statement M
+four_from_first_spec =
     tie.close
     (tie.spec
     invariant-loop
@@ -66,7 +66,7 @@ four-from-first-spec =
     (λ c. omega arith)
     (λ c. omega arith)
     (λ c κs. omega arith)
-    loop-holds
+    loop-k-init
     (λ c. omega arith)
     (λ c. omega arith)
     (λ c. omega arith)
@@ -74,5 +74,5 @@ four-from-first-spec =
     (λ c κs. tt)
     (λ c. omega arith)
     (λ c. omega arith)
-    loop-again
+    loop-k-preserved
     returns)

@@ -11,17 +11,17 @@ use Rattle.entries.proofs.Totals.{AddingOn, begun_on, added_on, all_added_on}
 use Rattle.times_vector.proofs.total_from_first.Statement.{statement}
 use Rattle.times_vector.proofs.total_from_first.Tie as tie
 
-abbrev invariant-loop : tie.invariant-loop
+abbrev invariant-loop : tie.invariant-loop-k
 invariant-loop inner a x r row total₀ k₀ total k = AddingOn binary32 (products binary32 (cell inner a r) (λ i. get_or x i nan)) inner total k
 
-abbrev decreases-loop : tie.decreases-loop
+abbrev decreases-loop : tie.decreases-loop-k
 decreases-loop inner a x r row total₀ k₀ total k = inner - k
 
-loop-again : tie.Need-loop-preserved invariant-loop decreases-loop
-loop-again c = added_on c.before.before.before.loop.invariant c.before.before.loop-test.true refl refl
+loop-k-preserved : tie.Need-loop-k-preserved invariant-loop decreases-loop
+loop-k-preserved c = added_on c.loop-k.invariant c.loop-k-test.true refl refl
 
-pub total-from-first-spec : {M : Type 1} → statement M
-total-from-first-spec =
+pub total_from_first_spec : {M : Type 1} → statement M
+total_from_first_spec =
     tie.close
     (tie.spec
     invariant-loop
@@ -30,7 +30,7 @@ total-from-first-spec =
     (λ c. omega arith)
     (λ c. omega arith)
     (λ c. omega arith)
-    (λ c. begun_on c.before.before.requires.0 (rw add-zero))
+    (λ c. begun_on c.requires.0 (rw add-zero))
     (λ c. omega arith)
     (λ c. omega arith)
     (λ c. omega arith)
@@ -38,5 +38,5 @@ total-from-first-spec =
     (λ c. omega arith)
     (λ c. omega arith)
     (λ c. omega arith)
-    loop-again
-    (λ c. all_added_on c.before.loop.invariant c.loop-test.false))
+    loop-k-preserved
+    (λ c. all_added_on c.loop-k.invariant c.loop-k-test.false))

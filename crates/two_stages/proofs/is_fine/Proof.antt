@@ -10,11 +10,11 @@ use Rattle.two_stages.proofs.is_fine.Tie as tie
 abbrev then_p : Four → Bool → Bool
 then_p n t = t && (((finite n.t0 && finite n.t1) && finite n.t2) && finite n.t3)
 
-returns : tie.Need-returns
-returns c = c.four.ensures ∙ ap (then_p c.before.before.before.args.n) (sym c.before.if1.true ∙ c.before.before.two.ensures)
+returns-then-two : tie.Need-returns-then-two
+returns-then-two c = c.four.ensures ∙ ap (then_p c.args.n) (sym c.if-two.true ∙ c.two.ensures)
 
-returns-2 : tie.Need-returns-2
-returns-2 c = c.if1.false ∙ ap (then_p c.before.before.args.n) (sym c.if1.false ∙ c.before.two.ensures)
+returns-else-two : tie.Need-returns-else-two
+returns-else-two c = c.if-two.false ∙ ap (then_p c.args.n) (sym c.if-two.false ∙ c.two.ensures)
 
-pub is-fine-spec : {M : Type 1} → statement M
-is-fine-spec = tie.close (tie.spec (λ c κs. tt) (λ c κs. tt) returns returns-2)
+pub is_fine_spec : {M : Type 1} → statement M
+is_fine_spec = tie.close (tie.spec (λ c κs. tt) (λ c κs. tt) returns-then-two returns-else-two)

@@ -6,7 +6,7 @@ use Rattle.two_stages.proofs.observe.Tie as tie
 
 returns : tie.Need-returns
 unfolding seen
-returns c = ap (beside c.before.before.before.before.before.before.before.before.before.before.before.before.args.b) c.before.before.before.before.before.before.before.two-more.ensures
+returns c = ap (beside c.args.b) c.two_more-s.ensures
 
-pub observe-spec : {M : Type 1} → statement M
-observe-spec = tie.close (tie.spec (λ c κs. tt) returns)
+pub observe_spec : {M : Type 1} → statement M
+observe_spec = tie.close (tie.spec (λ c κs. tt) returns)

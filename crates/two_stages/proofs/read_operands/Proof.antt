@@ -10,11 +10,11 @@ use Rattle.two_stages.proofs.read_operands.Tie as tie
 returns : tie.Need-returns
 unfolding lent_in
 returns c =
-    let m = c.before.before.before.before.before.before.before.before.before.before.before.before.args in
-    ap (around m.x.now m.h.now m.z.now m.r.now) (four_is _ (numbers m.p.now) c.before.before.before.before.read.ensures)
+    let m = c.args in
+    ap (around m.x.now m.h.now m.z.now m.r.now) (four_is _ (numbers m.p.now) c.read.ensures)
 
-pub read-operands-spec : {M : Type 1} → statement M
-read-operands-spec =
+pub read_operands_spec : {M : Type 1} → statement M
+read_operands_spec =
     tie.close
     (tie.spec
     (λ c. omega arith)

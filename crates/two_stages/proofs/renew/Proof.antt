@@ -8,11 +8,11 @@ returns : tie.Need-returns
 unfolding renewal
 returns c =
     let last = c.before.before.before.before.before.before.before.before.before.before.before.before in
-    let m = last.before.before.before.before.before.before.args in
-    made_is m.b m.s.y last.before.before.before.before.before.once.ensures last.before.before.before.before.once2.ensures last.before.before.before.twice.ensures last.before.before.twice2.ensures last.before.twice3.ensures last.twice4.ensures
+    let m = last.args in
+    made_is m.b m.s.y last.once-k0.ensures last.once-k1.ensures last.twice.ensures last.twice-2.ensures last.twice-3.ensures last.twice-4.ensures
 
-pub renew-spec : {M : Type 1} → statement M
-renew-spec =
+pub renew_spec : {M : Type 1} → statement M
+renew_spec =
     tie.close
     (tie.spec
     (λ c κs. tt)

@@ -9,61 +9,61 @@ use Rattle.card_fields.proofs.Laid.{copied}
 use Rattle.card_fields.proofs.bytes.put_bytes.Statement.{statement}
 use Rattle.card_fields.proofs.bytes.put_bytes.Tie as tie
 
-abbrev invariant-loop : tie.invariant-loop
+abbrev invariant-loop : tie.invariant-loop-i
 invariant-loop into₀ at bytes i₀ into i = (i ≤ length bytes) × (length into ≡ length into₀) × (into ≡ sets into₀ at (take i bytes))
 
-abbrev decreases-loop : tie.decreases-loop
+abbrev decreases-loop : tie.decreases-loop-i
 decreases-loop into₀ at bytes i₀ into i = length bytes - i
 
-loop-holds : tie.Need-loop-init invariant-loop decreases-loop
-loop-holds c = (omega arith, refl, refl)
+loop-i-init : tie.Need-loop-i-init invariant-loop decreases-loop
+loop-i-init c = (omega arith, refl, refl)
 
-shared-slice-read-into : tie.Need-shared-slice-read-into invariant-loop decreases-loop
-shared-slice-read-into c = search rules
+bounds-bytes-i : tie.Need-bounds-bytes-i invariant-loop decreases-loop
+bounds-bytes-i c = search rules
 
-add-into : tie.Need-overflow-add-into invariant-loop decreases-loop
-add-into c = search rules
+overflow_add-into : tie.Need-overflow_add-into invariant-loop decreases-loop
+overflow_add-into c = search rules
 
-slice-write-into : tie.Need-slice-write-into invariant-loop decreases-loop
-slice-write-into c = omega arith
+bounds-into-at : tie.Need-bounds-into-at invariant-loop decreases-loop
+bounds-into-at c = omega arith
 
-add-i : tie.Need-overflow-add-i invariant-loop decreases-loop
-add-i c = search rules
+overflow_add-i : tie.Need-overflow_add-i invariant-loop decreases-loop
+overflow_add-i c = search rules
 
-loop-less : tie.Need-loop-smaller invariant-loop decreases-loop
-loop-less c = search rules
+loop-i-smaller : tie.Need-loop-i-smaller invariant-loop decreases-loop
+loop-i-smaller c = search rules
 
-loop-again : tie.Need-loop-preserved invariant-loop decreases-loop
-loop-again c =
-    let a = c.before.before.before.args in
-    let l = c.before.before.loop in
-    (omega arith, length-set l.into (a.at + l.i) _ ∙ l.invariant.1, copied a.into.now l.into a.bytes.now a.at l.i c.before.loop-test.true l.invariant.2)
+loop-i-preserved : tie.Need-loop-i-preserved invariant-loop decreases-loop
+loop-i-preserved c =
+    let a = c.args in
+    let l = c.loop-i in
+    (omega arith, length-set l.into (a.at + l.i) _ ∙ l.invariant.1, copied a.into.now l.into a.bytes.now a.at l.i c.loop-i-test.true l.invariant.2)
 
-add-result : tie.Need-overflow-add-result invariant-loop decreases-loop
-add-result c = omega arith
+overflow_add-result : tie.Need-overflow_add-result invariant-loop decreases-loop
+overflow_add-result c = omega arith
 
-same_length : tie.Need-same-length invariant-loop decreases-loop
-same_length c = search rules
+shape_of-into : tie.Need-shape_of-into invariant-loop decreases-loop
+shape_of-into c = search rules
 
 returns : tie.Need-returns invariant-loop decreases-loop
 returns c =
-    let a = c.before.before.args in
-    let whole : c.before.loop.i ≡ length a.bytes.now = omega arith in
-    (ap (λ (j : ℕ). a.at + j) whole, c.before.loop.invariant.2 ∙ ap (sets a.into.now a.at) (ap (λ (j : ℕ). take j a.bytes.now) whole ∙ take-length a.bytes.now))
+    let a = c.args in
+    let whole : c.loop-i.i ≡ length a.bytes.now = omega arith in
+    (ap (λ (j : ℕ). a.at + j) whole, c.loop-i.invariant.2 ∙ ap (sets a.into.now a.at) (ap (λ (j : ℕ). take j a.bytes.now) whole ∙ take-length a.bytes.now))
 
-pub put-bytes-spec : {M : Type 1} → statement M
-put-bytes-spec =
+pub put_bytes_spec : {M : Type 1} → statement M
+put_bytes_spec =
     tie.close
     (tie.spec
     invariant-loop
     decreases-loop
-    loop-holds
-    shared-slice-read-into
-    add-into
-    slice-write-into
-    add-i
-    loop-less
-    loop-again
-    add-result
-    same_length
+    loop-i-init
+    bounds-bytes-i
+    overflow_add-into
+    bounds-into-at
+    overflow_add-i
+    loop-i-smaller
+    loop-i-preserved
+    overflow_add-result
+    shape_of-into
     returns)

@@ -6,67 +6,67 @@ use Rattle.card_lines.proofs.Counting.{no_bytes, after_one, no_third, after_two,
 use Rattle.card_lines.proofs.counts.count_at.Statement.{statement}
 use Rattle.card_lines.proofs.counts.count_at.Tie as tie
 
-sub-room : tie.Need-overflow-sub-room
-sub-room c = search rules
+overflow_sub-room : tie.Need-overflow_sub-room
+overflow_sub-room c = search rules
+
+returns-then-room-lt2 : tie.Need-returns-then-room-lt2
+returns-then-room-lt2 c = no_bytes _ _ c.if-room-lt2.true
+
+bounds-s-at : tie.Need-bounds-s-at
+bounds-s-at c = search rules
+
+overflow_add-c : tie.Need-overflow_add-c
+overflow_add-c c = search rules
+
+bounds-s-at-2 : tie.Need-bounds-s-at-2
+bounds-s-at-2 c = search rules
+
+overflow_add-at : tie.Need-overflow_add-at
+overflow_add-at c = search rules
+
+one_digit-requires : tie.Need-one_digit-requires
+one_digit-requires c κs = search rules
+
+returns-then-c-eq10 : tie.Need-returns-then-c-eq10
+returns-then-c-eq10 c = c.one_digit.ensures ∙ after_one _ _ (omega arith) c.if-c-eq10.true
+
+returns-then-room-lt3 : tie.Need-returns-then-room-lt3
+returns-then-room-lt3 c = no_third _ _ (omega arith) c.if-c-eq10.false c.if-room-lt3.true
+
+overflow_add-at-2 : tie.Need-overflow_add-at-2
+overflow_add-at-2 c = search rules
+
+bounds-s-at-3 : tie.Need-bounds-s-at-3
+bounds-s-at-3 c = search rules
+
+returns-then-s-at-ne10 : tie.Need-returns-then-s-at-ne10
+returns-then-s-at-ne10 c = too_long _ _ (omega arith) c.if-c-eq10.false c.if-s-at-ne10.true
+
+overflow_add-at-3 : tie.Need-overflow_add-at-3
+overflow_add-at-3 c = search rules
+
+two_digits-requires : tie.Need-two_digits-requires
+two_digits-requires c κs = search rules
 
 returns : tie.Need-returns
-returns c = no_bytes _ _ c.if1.true
+returns c = c.two_digits.ensures ∙ after_two _ _ (omega arith) c.if-c-eq10.false c.if-s-at-ne10.false
 
-shared-slice-read-b : tie.Need-shared-slice-read-b
-shared-slice-read-b c = search rules
-
-add-c : tie.Need-overflow-add-c
-add-c c = search rules
-
-shared-slice-read-c : tie.Need-shared-slice-read-c
-shared-slice-read-c c = search rules
-
-add-one-digit : tie.Need-overflow-add-one-digit
-add-one-digit c = search rules
-
-one-digit-requires : tie.Need-one-digit-requires
-one-digit-requires c κs = search rules
-
-returns-2 : tie.Need-returns-2
-returns-2 c = c.one-digit.ensures ∙ after_one _ _ (omega arith) c.before.if2.true
-
-returns-3 : tie.Need-returns-3
-returns-3 c = no_third _ _ (omega arith) c.before.if2.false c.if3.true
-
-add-if4 : tie.Need-overflow-add-if4
-add-if4 c = search rules
-
-shared-slice-read-if4 : tie.Need-shared-slice-read-if4
-shared-slice-read-if4 c = search rules
-
-returns-4 : tie.Need-returns-4
-returns-4 c = too_long _ _ (omega arith) c.before.before.before.if2.false c.if4.true
-
-add-two-digits : tie.Need-overflow-add-two-digits
-add-two-digits c = search rules
-
-two-digits-requires : tie.Need-two-digits-requires
-two-digits-requires c κs = search rules
-
-returns-5 : tie.Need-returns-5
-returns-5 c = c.two_digits.ensures ∙ after_two _ _ (omega arith) c.before.before.before.before.if2.false c.before.if4.false
-
-pub count-at-spec : {M : Type 1} → statement M
-count-at-spec =
+pub count_at_spec : {M : Type 1} → statement M
+count_at_spec =
     tie.close
     (tie.spec
-    sub-room
-    returns
-    shared-slice-read-b
-    add-c
-    shared-slice-read-c
-    add-one-digit
-    one-digit-requires
-    returns-2
-    returns-3
-    add-if4
-    shared-slice-read-if4
-    returns-4
-    add-two-digits
-    two-digits-requires
-    returns-5)
+    overflow_sub-room
+    returns-then-room-lt2
+    bounds-s-at
+    overflow_add-c
+    bounds-s-at-2
+    overflow_add-at
+    one_digit-requires
+    returns-then-c-eq10
+    returns-then-room-lt3
+    overflow_add-at-2
+    bounds-s-at-3
+    returns-then-s-at-ne10
+    overflow_add-at-3
+    two_digits-requires
+    returns)

@@ -8,30 +8,30 @@ use Rattle.card_lines.proofs.Keyed.{no_count, count_there}
 use Rattle.card_lines.proofs.counts.count_line.Statement.{statement}
 use Rattle.card_lines.proofs.counts.count_line.Tie as tie
 
-begins-at-requires : tie.Need-begins-at-requires
-begins-at-requires c κs = search rules
+begins_at-requires : tie.Need-begins_at-requires
+begins_at-requires c κs = search rules
 
-add-count-at : tie.Need-overflow-add-count-at
-add-count-at c =
-    let a = c.before.before.before.before.args in
-    omega (arith, length-drop a.at a.s.now, key_fits a.key.now (drop a.at a.s.now) (sym c.before.begins-at.ensures ∙ c.if1.true))
+overflow_add-at : tie.Need-overflow_add-at
+overflow_add-at c =
+    let a = c.args in
+    omega (arith, length-drop a.at a.s.now, key_fits a.key.now (drop a.at a.s.now) (sym c.begins_at.ensures ∙ c.if-begins_at.true))
 
-count-at-requires : tie.Need-count-at-requires
-count-at-requires c κs =
-    let a = c.before.before.before.before.args in
-    omega (arith, length-drop a.at a.s.now, key_fits a.key.now (drop a.at a.s.now) (sym c.before.begins-at.ensures ∙ c.if1.true))
+count_at-requires : tie.Need-count_at-requires
+count_at-requires c κs =
+    let a = c.args in
+    omega (arith, length-drop a.at a.s.now, key_fits a.key.now (drop a.at a.s.now) (sym c.begins_at.ensures ∙ c.if-begins_at.true))
 
-returns : tie.Need-returns
-returns c =
+returns-then-begins_at : tie.Need-returns-then-begins_at
+returns-then-begins_at c =
     let e = c.before.before.before.before.before in
     c.count_at.ensures
-    ∙ count_there e.args.key.now e.args.s.now e.args.at e.requires.1 (sym c.before.before.begins-at.ensures ∙ c.before.if1.true)
+    ∙ count_there e.args.key.now e.args.s.now e.args.at e.requires.1 (sym c.begins_at.ensures ∙ c.if-begins_at.true)
 
-returns-2 : tie.Need-returns-2
-returns-2 c =
-    let a = c.before.before.before.before.args in
-    no_count a.key.now a.s.now a.at (sym c.before.begins-at.ensures ∙ c.if1.false)
+returns-else-begins_at : tie.Need-returns-else-begins_at
+returns-else-begins_at c =
+    let a = c.args in
+    no_count a.key.now a.s.now a.at (sym c.begins_at.ensures ∙ c.if-begins_at.false)
 
-pub count-line-spec : {M : Type 1} → statement M
-count-line-spec =
-    tie.close (tie.spec begins-at-requires add-count-at count-at-requires returns returns-2)
+pub count_line_spec : {M : Type 1} → statement M
+count_line_spec =
+    tie.close (tie.spec begins_at-requires overflow_add-at count_at-requires returns-then-begins_at returns-else-begins_at)

@@ -6,17 +6,17 @@ use Rattle.card_lines.proofs.Counting.{digit, below, above}
 use Rattle.card_lines.proofs.counts.one_digit.Statement.{statement}
 use Rattle.card_lines.proofs.counts.one_digit.Tie as tie
 
-cast-t6 : tie.Need-overflow-cast-t6
-cast-t6 c = search rules
+overflow_cast-result : tie.Need-overflow_cast-result
+overflow_cast-result c = search rules
 
-returns : tie.Need-returns
-returns c = digit _ _ (omega arith) (omega arith)
+returns-in-48-to-57 : tie.Need-returns-in-48-to-57
+returns-in-48-to-57 c = digit _ _ (omega arith) (omega arith)
 
-returns-2 : tie.Need-returns-2
-returns-2 c = below _ _ (omega arith)
+returns-in_default : tie.Need-returns-in_default
+returns-in_default c = below _ _ (omega arith)
 
-returns-3 : tie.Need-returns-3
-returns-3 c = above _ _ (omega arith)
+returns-in_default-2 : tie.Need-returns-in_default-2
+returns-in_default-2 c = above _ _ (omega arith)
 
-pub one-digit-spec : {M : Type 1} → statement M
-one-digit-spec = tie.close (tie.spec cast-t6 returns returns-2 returns-3)
+pub one_digit_spec : {M : Type 1} → statement M
+one_digit_spec = tie.close (tie.spec overflow_cast-result returns-in-48-to-57 returns-in_default returns-in_default-2)

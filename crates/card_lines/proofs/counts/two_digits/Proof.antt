@@ -5,35 +5,35 @@ use Rattle.card_lines.proofs.Counting.{digits, second_below, second_above, first
 use Rattle.card_lines.proofs.counts.two_digits.Statement.{statement}
 use Rattle.card_lines.proofs.counts.two_digits.Tie as tie
 
-returns : tie.Need-returns
-returns c = first_below _ _ _ (omega arith)
+returns-then-b-lt49 : tie.Need-returns-then-b-lt49
+returns-then-b-lt49 c = first_below _ _ _ (omega arith)
 
-returns-2 : tie.Need-returns-2
-returns-2 c = first_above _ _ _ (omega arith)
+returns-then-b-gt57 : tie.Need-returns-then-b-gt57
+returns-then-b-gt57 c = first_above _ _ _ (omega arith)
 
-sub-tens : tie.Need-overflow-sub-tens
-sub-tens c = search rules
+overflow_sub-tens : tie.Need-overflow_sub-tens
+overflow_sub-tens c = search rules
 
-cast-tens : tie.Need-overflow-cast-tens
-cast-tens c = search rules
+overflow_cast-tens : tie.Need-overflow_cast-tens
+overflow_cast-tens c = search rules
 
-cast-ones : tie.Need-overflow-cast-ones
-cast-ones c = search rules
+overflow_cast-ones : tie.Need-overflow_cast-ones
+overflow_cast-ones c = search rules
 
-mul-t10 : tie.Need-overflow-mul-t10
-mul-t10 c = search rules
+overflow_mul-result : tie.Need-overflow_mul-result
+overflow_mul-result c = search rules
 
-add-t11 : tie.Need-overflow-add-t11
-add-t11 c = search rules
+overflow_add-result : tie.Need-overflow_add-result
+overflow_add-result c = search rules
 
-returns-3 : tie.Need-returns-3
-returns-3 c = digits _ _ _ (omega arith) (omega arith) (omega arith) (omega arith)
+returns-in-48-to-57 : tie.Need-returns-in-48-to-57
+returns-in-48-to-57 c = digits _ _ _ (omega arith) (omega arith) (omega arith) (omega arith)
 
-returns-4 : tie.Need-returns-4
-returns-4 c = second_below _ _ _ (omega arith) (omega arith) (omega arith)
+returns-in_default : tie.Need-returns-in_default
+returns-in_default c = second_below _ _ _ (omega arith) (omega arith) (omega arith)
 
-returns-5 : tie.Need-returns-5
-returns-5 c = second_above _ _ _ (omega arith) (omega arith) (omega arith)
+returns-in_default-2 : tie.Need-returns-in_default-2
+returns-in_default-2 c = second_above _ _ _ (omega arith) (omega arith) (omega arith)
 
-pub two-digits-spec : {M : Type 1} → statement M
-two-digits-spec = tie.close (tie.spec returns returns-2 sub-tens cast-tens cast-ones mul-t10 add-t11 returns-3 returns-4 returns-5)
+pub two_digits_spec : {M : Type 1} → statement M
+two_digits_spec = tie.close (tie.spec returns-then-b-lt49 returns-then-b-gt57 overflow_sub-tens overflow_cast-tens overflow_cast-ones overflow_mul-result overflow_add-result returns-in-48-to-57 returns-in_default returns-in_default-2)

@@ -4,20 +4,20 @@ use Rattle.card_lines.proofs.Worth.{decimal, letter, low, between, high}
 use Rattle.card_lines.proofs.digits.other.Statement.{statement}
 use Rattle.card_lines.proofs.digits.other.Tie as tie
 
-returns : tie.Need-returns
-returns c = decimal _ (omega arith) (omega arith)
+returns-in-48-to-57 : tie.Need-returns-in-48-to-57
+returns-in-48-to-57 c = decimal _ (omega arith) (omega arith)
 
-returns-2 : tie.Need-returns-2
-returns-2 c = letter _ (omega arith) (omega arith)
+returns-in-97-to-102 : tie.Need-returns-in-97-to-102
+returns-in-97-to-102 c = letter _ (omega arith) (omega arith)
 
-returns-3 : tie.Need-returns-3
-returns-3 c = low _ (omega arith)
+returns-in_default : tie.Need-returns-in_default
+returns-in_default c = low _ (omega arith)
 
-returns-4 : tie.Need-returns-4
-returns-4 c = between _ (omega arith) (omega arith)
+returns-in_default-2 : tie.Need-returns-in_default-2
+returns-in_default-2 c = between _ (omega arith) (omega arith)
 
-returns-5 : tie.Need-returns-5
-returns-5 c = high _ (omega arith)
+returns-in_default-3 : tie.Need-returns-in_default-3
+returns-in_default-3 c = high _ (omega arith)
 
-pub other-spec : {M : Type 1} → statement M
-other-spec = tie.close (tie.spec returns returns-2 returns-3 returns-4 returns-5)
+pub other_spec : {M : Type 1} → statement M
+other_spec = tie.close (tie.spec returns-in-48-to-57 returns-in-97-to-102 returns-in_default returns-in_default-2 returns-in_default-3)

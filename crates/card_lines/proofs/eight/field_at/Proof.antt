@@ -11,85 +11,85 @@ use Rattle.card_lines.proofs.Entering.{no_field, digits_more, at_most_one, by_by
 use Rattle.card_lines.proofs.eight.field_at.Statement.{statement}
 use Rattle.card_lines.proofs.eight.field_at.Tie as tie
 
-abbrev invariant-loop : tie.invariant-loop
+abbrev invariant-loop : tie.invariant-loop-i
 invariant-loop s p end others₀ i₀ others i = (p + 9 ≤ length s) × (i ≤ 8) × (others ≤ i) × (eqb others 0 ≡ are_digits (take i (drop p s)))
 
-abbrev decreases-loop : tie.decreases-loop
+abbrev decreases-loop : tie.decreases-loop-i
 decreases-loop s p end others₀ i₀ others i = 8 - i
 
-sub-if1 : tie.Need-overflow-sub-if1 invariant-loop decreases-loop
-sub-if1 c = search rules
+overflow_sub-s : tie.Need-overflow_sub-s invariant-loop decreases-loop
+overflow_sub-s c = search rules
 
-returns : tie.Need-returns invariant-loop decreases-loop
-returns c = let e = c.before.before in no_field 8 e.args.s.now e.args.p e.args.end c.if1.true e.requires.1
+returns-then-s-p-lt9 : tie.Need-returns-then-s-p-lt9 invariant-loop decreases-loop
+returns-then-s-p-lt9 c = let e = c.before.before in no_field 8 e.args.s.now e.args.p e.args.end c.if-s-p-lt9.true e.requires.1
 
-loop-holds : tie.Need-loop-init invariant-loop decreases-loop
+loop-i-init : tie.Need-loop-i-init invariant-loop decreases-loop
 unfolding are_digits
-loop-holds c = (omega arith, lit≤ tt, lit≤ tt, refl)
+loop-i-init c = (omega arith, lit≤ tt, lit≤ tt, refl)
 
-add-other : tie.Need-overflow-add-other invariant-loop decreases-loop
-add-other c = search rules
+overflow_add-p : tie.Need-overflow_add-p invariant-loop decreases-loop
+overflow_add-p c = search rules
 
-shared-slice-read-other : tie.Need-shared-slice-read-other invariant-loop decreases-loop
-shared-slice-read-other c = omega arith
+bounds-s-p : tie.Need-bounds-s-p invariant-loop decreases-loop
+bounds-s-p c = omega arith
 
-other-requires : tie.Need-other-requires invariant-loop decreases-loop
-other-requires c κs = tt
+other-others-requires : tie.Need-other-others-requires invariant-loop decreases-loop
+other-others-requires c κs = tt
 
 -- the byte that was read adds at most 1
-adds : (c : tie.After-other invariant-loop decreases-loop) → c.other.result ≤ 1
-adds c = at_most_one _ c.other.result c.other.ensures
+adds : (c : tie.After-other-others invariant-loop decreases-loop) → c.other-others.result ≤ 1
+adds c = at_most_one _ c.other-others.result c.other-others.ensures
 
-add-others : tie.Need-overflow-add-others invariant-loop decreases-loop
-add-others c = omega (arith, adds c)
+overflow_add-others : tie.Need-overflow_add-others invariant-loop decreases-loop
+overflow_add-others c = omega (arith, adds c)
 
-add-i : tie.Need-overflow-add-i invariant-loop decreases-loop
-add-i c = search rules
+overflow_add-i : tie.Need-overflow_add-i invariant-loop decreases-loop
+overflow_add-i c = search rules
 
-loop-less : tie.Need-loop-smaller invariant-loop decreases-loop
-loop-less c = search rules
+loop-i-smaller : tie.Need-loop-i-smaller invariant-loop decreases-loop
+loop-i-smaller c = search rules
 
-loop-again : tie.Need-loop-preserved invariant-loop decreases-loop
-loop-again c =
-    let a = c.before.before.before.before.before.before.args in
-    let l = c.before.before.before.loop in
-    (l.invariant.0, omega arith, omega (arith, adds c), digits_more a.s.now a.p l.i l.others _ (omega arith) c.other.ensures l.invariant.3)
+loop-i-preserved : tie.Need-loop-i-preserved invariant-loop decreases-loop
+loop-i-preserved c =
+    let a = c.args in
+    let l = c.loop-i in
+    (l.invariant.0, omega arith, omega (arith, adds c), digits_more a.s.now a.p l.i l.others _ (omega arith) c.other-others.ensures l.invariant.3)
 
-add-result : tie.Need-overflow-add-result invariant-loop decreases-loop
-add-result c = omega arith
+overflow_add-result : tie.Need-overflow_add-result invariant-loop decreases-loop
+overflow_add-result c = omega arith
 
-shared-slice-read-result : tie.Need-shared-slice-read-result invariant-loop decreases-loop
-shared-slice-read-result c = omega arith
+bounds-s-p-then-others-eq0 : tie.Need-bounds-s-p-then-others-eq0 invariant-loop decreases-loop
+bounds-s-p-then-others-eq0 c = omega arith
 
-returns-2 : tie.Need-returns-2 invariant-loop decreases-loop
-returns-2 c =
-    let a = c.before.before.before.before.before.before.args in
-    let l = c.before.before.before.loop in
-    by_byte 8 a.s.now a.p a.end l.i l.others (omega arith) l.invariant.3 c.before.if2.true
+returns-then-others-eq0 : tie.Need-returns-then-others-eq0 invariant-loop decreases-loop
+returns-then-others-eq0 c =
+    let a = c.args in
+    let l = c.loop-i in
+    by_byte 8 a.s.now a.p a.end l.i l.others (omega arith) l.invariant.3 c.if-others-eq0.true
 
-returns-3 : tie.Need-returns-3 invariant-loop decreases-loop
-returns-3 c =
-    let a = c.before.before.before.before.before.args in
-    let l = c.before.before.loop in
-    by_other 8 a.s.now a.p a.end l.i l.others (omega arith) l.invariant.3 c.if2.false
+returns-else-others-eq0 : tie.Need-returns-else-others-eq0 invariant-loop decreases-loop
+returns-else-others-eq0 c =
+    let a = c.args in
+    let l = c.loop-i in
+    by_other 8 a.s.now a.p a.end l.i l.others (omega arith) l.invariant.3 c.if-others-eq0.false
 
-pub field-at-spec : {M : Type 1} → statement M
-field-at-spec =
+pub field_at_spec : {M : Type 1} → statement M
+field_at_spec =
     tie.close
     (tie.spec
     invariant-loop
     decreases-loop
-    sub-if1
-    returns
-    loop-holds
-    add-other
-    shared-slice-read-other
-    other-requires
-    add-others
-    add-i
-    loop-less
-    loop-again
-    add-result
-    shared-slice-read-result
-    returns-2
-    returns-3)
+    overflow_sub-s
+    returns-then-s-p-lt9
+    loop-i-init
+    overflow_add-p
+    bounds-s-p
+    other-others-requires
+    overflow_add-others
+    overflow_add-i
+    loop-i-smaller
+    loop-i-preserved
+    overflow_add-result
+    bounds-s-p-then-others-eq0
+    returns-then-others-eq0
+    returns-else-others-eq0)

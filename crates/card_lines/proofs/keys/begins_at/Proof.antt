@@ -11,59 +11,59 @@ use Rattle.card_lines.proofs.Begun.{no_room, all_begun, same_byte, other_byte}
 use Rattle.card_lines.proofs.keys.begins_at.Statement.{statement}
 use Rattle.card_lines.proofs.keys.begins_at.Tie as tie
 
-abbrev invariant-loop : tie.invariant-loop
+abbrev invariant-loop : tie.invariant-loop-i
 invariant-loop s at key i₀ i = (at + length key ≤ length s) × (begins (drop i key) (drop (at + i) s) ≡ begins key (drop at s))
 
-abbrev decreases-loop : tie.decreases-loop
+abbrev decreases-loop : tie.decreases-loop-i
 decreases-loop s at key i₀ i = length key - i
 
-sub-if1 : tie.Need-overflow-sub-if1 invariant-loop decreases-loop
-sub-if1 c = search rules
+overflow_sub-s : tie.Need-overflow_sub-s invariant-loop decreases-loop
+overflow_sub-s c = search rules
+
+returns-then-s-at : tie.Need-returns-then-s-at invariant-loop decreases-loop
+returns-then-s-at c = let a = c.args in no_room a.s.now a.key.now a.at c.if-s-at.true
+
+loop-i-init : tie.Need-loop-i-init invariant-loop decreases-loop
+loop-i-init c = let a = c.args in (omega arith, ap (λ (p : ℕ). begins a.key.now (drop p a.s.now)) (add-zero a.at))
+
+bounds-key-i : tie.Need-bounds-key-i invariant-loop decreases-loop
+bounds-key-i c = search rules
+
+overflow_add-at : tie.Need-overflow_add-at invariant-loop decreases-loop
+overflow_add-at c = search rules
+
+bounds-s-at : tie.Need-bounds-s-at invariant-loop decreases-loop
+bounds-s-at c = omega arith
+
+returns-then-key-i : tie.Need-returns-then-key-i invariant-loop decreases-loop
+returns-then-key-i c = other_byte _ _ _ _ c.loop-i-test.true (omega arith) c.if-key-i.true ∙ c.loop-i.invariant.1
+
+overflow_add-i : tie.Need-overflow_add-i invariant-loop decreases-loop
+overflow_add-i c = search rules
+
+loop-i-smaller : tie.Need-loop-i-smaller invariant-loop decreases-loop
+loop-i-smaller c = search rules
+
+loop-i-preserved : tie.Need-loop-i-preserved invariant-loop decreases-loop
+loop-i-preserved c = (c.loop-i.invariant.0, same_byte _ _ _ _ c.loop-i-test.true (omega arith) c.if-key-i.false ∙ c.loop-i.invariant.1)
 
 returns : tie.Need-returns invariant-loop decreases-loop
-returns c = let a = c.before.args in no_room a.s.now a.key.now a.at c.if1.true
+returns c = all_begun _ _ _ c.loop-i-test.false ∙ c.loop-i.invariant.1
 
-loop-holds : tie.Need-loop-init invariant-loop decreases-loop
-loop-holds c = let a = c.before.args in (omega arith, ap (λ (p : ℕ). begins a.key.now (drop p a.s.now)) (add-zero a.at))
-
-shared-slice-read-if2 : tie.Need-shared-slice-read-if2 invariant-loop decreases-loop
-shared-slice-read-if2 c = search rules
-
-add-if2 : tie.Need-overflow-add-if2 invariant-loop decreases-loop
-add-if2 c = search rules
-
-shared-slice-read-if2-2 : tie.Need-shared-slice-read-if2-2 invariant-loop decreases-loop
-shared-slice-read-if2-2 c = omega arith
-
-returns-2 : tie.Need-returns-2 invariant-loop decreases-loop
-returns-2 c = other_byte _ _ _ _ c.before.before.before.loop-test.true (omega arith) c.if2.true ∙ c.before.before.before.before.loop.invariant.1
-
-add-i : tie.Need-overflow-add-i invariant-loop decreases-loop
-add-i c = search rules
-
-loop-less : tie.Need-loop-smaller invariant-loop decreases-loop
-loop-less c = search rules
-
-loop-again : tie.Need-loop-preserved invariant-loop decreases-loop
-loop-again c = (c.before.before.before.before.loop.invariant.0, same_byte _ _ _ _ c.before.before.before.loop-test.true (omega arith) c.if2.false ∙ c.before.before.before.before.loop.invariant.1)
-
-returns-3 : tie.Need-returns-3 invariant-loop decreases-loop
-returns-3 c = all_begun _ _ _ c.loop-test.false ∙ c.before.loop.invariant.1
-
-pub begins-at-spec : {M : Type 1} → statement M
-begins-at-spec =
+pub begins_at_spec : {M : Type 1} → statement M
+begins_at_spec =
     tie.close
     (tie.spec
     invariant-loop
     decreases-loop
-    sub-if1
-    returns
-    loop-holds
-    shared-slice-read-if2
-    add-if2
-    shared-slice-read-if2-2
-    returns-2
-    add-i
-    loop-less
-    loop-again
-    returns-3)
+    overflow_sub-s
+    returns-then-s-at
+    loop-i-init
+    bounds-key-i
+    overflow_add-at
+    bounds-s-at
+    returns-then-key-i
+    overflow_add-i
+    loop-i-smaller
+    loop-i-preserved
+    returns)

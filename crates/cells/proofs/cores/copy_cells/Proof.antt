@@ -8,17 +8,17 @@ use Rattle.grids.proofs.Loops.{Writing, begun, written, all_written}
 use Rattle.cells.proofs.cores.copy_cells.Statement.{statement}
 use Rattle.cells.proofs.cores.copy_cells.Tie as tie
 
-abbrev invariant-loop : tie.invariant-loop
+abbrev invariant-loop : tie.invariant-loop-i
 invariant-loop n from to₀ i₀ to i = Writing 0 n (λ j. get_or from j nan) to₀ to i
 
-abbrev decreases-loop : tie.decreases-loop
+abbrev decreases-loop : tie.decreases-loop-i
 decreases-loop n from to₀ i₀ to i = n - i
 
-loop-again : tie.Need-loop-preserved invariant-loop decreases-loop
-loop-again c = rw zero-add at (written c.before.before.loop.invariant c.before.loop-test.true)
+loop-i-preserved : tie.Need-loop-i-preserved invariant-loop decreases-loop
+loop-i-preserved c = rw zero-add at (written c.loop-i.invariant c.loop-i-test.true)
 
-pub copy-cells-spec : {M : Type 1} → statement M
-copy-cells-spec =
+pub copy_cells_spec : {M : Type 1} → statement M
+copy_cells_spec =
     tie.close
     (tie.spec
     invariant-loop
@@ -30,6 +30,6 @@ copy-cells-spec =
     (λ c. omega arith)
     (λ c. omega arith)
     (λ c. omega arith)
-    loop-again
-    (λ c. c.before.loop.invariant.size)
-    (λ c. all_written c.before.loop.invariant c.loop-test.false))
+    loop-i-preserved
+    (λ c. c.loop-i.invariant.size)
+    (λ c. all_written c.loop-i.invariant c.loop-i-test.false))

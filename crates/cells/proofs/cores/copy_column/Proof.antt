@@ -8,21 +8,21 @@ use Rattle.grids.proofs.Loops.{Writing, begun, written, all_written}
 use Rattle.cells.proofs.cores.copy_column.Statement.{statement}
 use Rattle.cells.proofs.cores.copy_column.Tie as tie
 
-abbrev invariant-loop : tie.invariant-loop
+abbrev invariant-loop : tie.invariant-loop-r
 invariant-loop rows cols from column to₀ r₀ to r = Writing 0 rows (λ k. cell cols from k column) to₀ to r
 
-abbrev decreases-loop : tie.decreases-loop
+abbrev decreases-loop : tie.decreases-loop-r
 decreases-loop rows cols from column to₀ r₀ to r = rows - r
 
 -- the cell that is read lies within the matrix
-in_from : (c : tie.In-loop invariant-loop decreases-loop) → let a = c.before.before.args in c.before.loop.r * a.cols + a.column < a.rows * a.cols
-in_from c = let a = c.before.before.args in inside a.rows a.cols c.before.loop.r a.column (omega arith) (omega arith)
+in_from : (c : tie.In-loop-r invariant-loop decreases-loop) → let a = c.args in c.loop-r.r * a.cols + a.column < a.rows * a.cols
+in_from c = let a = c.args in inside a.rows a.cols c.loop-r.r a.column (omega arith) (omega arith)
 
-loop-again : tie.Need-loop-preserved invariant-loop decreases-loop
-loop-again c = rw zero-add at (written c.before.before.loop.invariant c.before.loop-test.true)
+loop-r-preserved : tie.Need-loop-r-preserved invariant-loop decreases-loop
+loop-r-preserved c = rw zero-add at (written c.loop-r.invariant c.loop-r-test.true)
 
-pub copy-column-spec : {M : Type 1} → statement M
-copy-column-spec =
+pub copy_column_spec : {M : Type 1} → statement M
+copy_column_spec =
     tie.close
     (tie.spec
     invariant-loop
@@ -36,6 +36,6 @@ copy-column-spec =
     (λ c. omega arith)
     (λ c. omega arith)
     (λ c. omega arith)
-    loop-again
-    (λ c. c.before.loop.invariant.size)
-    (λ c. all_written c.before.loop.invariant c.loop-test.false))
+    loop-r-preserved
+    (λ c. c.loop-r.invariant.size)
+    (λ c. all_written c.loop-r.invariant c.loop-r-test.false))

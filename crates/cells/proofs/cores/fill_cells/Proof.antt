@@ -6,17 +6,17 @@ use Rattle.grids.proofs.Loops.{Writing, begun, written, all_written}
 use Rattle.cells.proofs.cores.fill_cells.Statement.{statement}
 use Rattle.cells.proofs.cores.fill_cells.Tie as tie
 
-abbrev invariant-loop : tie.invariant-loop
+abbrev invariant-loop : tie.invariant-loop-i
 invariant-loop n m₀ x i₀ m i = Writing 0 n (λ j. x) m₀ m i
 
-abbrev decreases-loop : tie.decreases-loop
+abbrev decreases-loop : tie.decreases-loop-i
 decreases-loop n m₀ x i₀ m i = n - i
 
-loop-again : tie.Need-loop-preserved invariant-loop decreases-loop
-loop-again c = rw zero-add at (written c.before.loop.invariant c.loop-test.true)
+loop-i-preserved : tie.Need-loop-i-preserved invariant-loop decreases-loop
+loop-i-preserved c = rw zero-add at (written c.loop-i.invariant c.loop-i-test.true)
 
-pub fill-cells-spec : {M : Type 1} → statement M
-fill-cells-spec =
+pub fill_cells_spec : {M : Type 1} → statement M
+fill_cells_spec =
     tie.close
     (tie.spec
     invariant-loop
@@ -26,6 +26,6 @@ fill-cells-spec =
     (λ c. omega arith)
     (λ c. omega arith)
     (λ c. omega arith)
-    loop-again
-    (λ c. c.before.loop.invariant.size)
-    (λ c. all_written c.before.loop.invariant c.loop-test.false))
+    loop-i-preserved
+    (λ c. c.loop-i.invariant.size)
+    (λ c. all_written c.loop-i.invariant c.loop-i-test.false))

@@ -6,21 +6,21 @@ use Rattle.grids.proofs.Grids.{inside}
 use Rattle.cells.proofs.cores.fill_diagonal.Statement.{statement}
 use Rattle.cells.proofs.cores.fill_diagonal.Tie as tie
 
-abbrev invariant-loop : tie.invariant-loop
+abbrev invariant-loop : tie.invariant-loop-i
 invariant-loop n m₀ x i₀ m i = Dotted n x m₀ m i
 
-abbrev decreases-loop : tie.decreases-loop
+abbrev decreases-loop : tie.decreases-loop-i
 decreases-loop n m₀ x i₀ m i = n - i
 
 -- the cell that is written lies within the matrix
-in_m : (c : tie.In-loop invariant-loop decreases-loop) → let a = c.before.before.args in c.before.loop.i * a.n + c.before.loop.i < a.n * a.n
-in_m c = let a = c.before.before.args in inside a.n a.n c.before.loop.i c.before.loop.i (omega arith) (omega arith)
+in_m : (c : tie.In-loop-i invariant-loop decreases-loop) → let a = c.args in c.loop-i.i * a.n + c.loop-i.i < a.n * a.n
+in_m c = let a = c.args in inside a.n a.n c.loop-i.i c.loop-i.i (omega arith) (omega arith)
 
-loop-again : tie.Need-loop-preserved invariant-loop decreases-loop
-loop-again c = dotted _ _ _ _ _ c.before.before.requires c.before.loop.invariant c.loop-test.true
+loop-i-preserved : tie.Need-loop-i-preserved invariant-loop decreases-loop
+loop-i-preserved c = dotted _ _ _ _ _ c.requires c.loop-i.invariant c.loop-i-test.true
 
-pub fill-diagonal-spec : {M : Type 1} → statement M
-fill-diagonal-spec =
+pub fill_diagonal_spec : {M : Type 1} → statement M
+fill_diagonal_spec =
     tie.close
     (tie.spec
     invariant-loop
@@ -32,6 +32,6 @@ fill-diagonal-spec =
     (λ c. omega (arith, in_m c))
     (λ c. omega arith)
     (λ c. omega arith)
-    loop-again
-    (λ c. c.before.loop.invariant.size)
-    (λ c. all_dotted _ _ _ _ _ c.before.loop.invariant c.loop-test.false))
+    loop-i-preserved
+    (λ c. c.loop-i.invariant.size)
+    (λ c. all_dotted _ _ _ _ _ c.loop-i.invariant c.loop-i-test.false))

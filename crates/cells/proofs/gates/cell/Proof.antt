@@ -7,10 +7,10 @@ use Rattle.cells.proofs.gates.cell.Tie as tie
 
 returns : tie.Need-returns
 unfolding matrix_answer cell_answer
-returns c = asked _ (asked _ c.before.before.matrix.ensures c.before.then-place.ensures) c.then-place2.ensures
+returns c = asked _ (asked _ c.matrix-held.ensures c.then_place.ensures) c.then_place-2.ensures
 
-pub cell-spec : {M : Type 1} → statement M
-cell-spec =
+pub cell_spec : {M : Type 1} → statement M
+cell_spec =
     tie.close
     (tie.spec
     (λ c κs. search rules)

@@ -7,10 +7,10 @@ use Rattle.cells.proofs.gates.matrix.Tie as tie
 
 returns : tie.Need-returns
 unfolding matrix_answer
-returns c = asked _ (asked _ c.before.before.then-size.ensures c.before.then-size2.ensures) c.then-matrix.ensures
+returns c = asked _ (asked _ c.then_size.ensures c.then_size-sizes.ensures) c.then_matrix.ensures
 
-pub matrix-spec : {M : Type 1} → statement M
-matrix-spec =
+pub matrix_spec : {M : Type 1} → statement M
+matrix_spec =
     tie.close
     (tie.spec
     (λ c κs. search rules)

@@ -7,7 +7,7 @@ use Rattle.cells.proofs.gates.pair.Tie as tie
 
 returns : tie.Need-returns
 unfolding matrix_answer pair_answer
-returns c = asked _ c.before.matrix.ensures c.then-matrix.ensures
+returns c = asked _ c.matrix.ensures c.then_matrix.ensures
 
 pub pair_spec : {M : Type 1} → statement M
 pair_spec =

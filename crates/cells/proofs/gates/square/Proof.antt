@@ -7,10 +7,10 @@ use Rattle.cells.proofs.gates.square.Tie as tie
 
 returns : tie.Need-returns
 unfolding square_answer
-returns c = asked _ c.before.then-size.ensures c.then-matrix.ensures
+returns c = asked _ c.then_size.ensures c.then_matrix.ensures
 
-pub square-spec : {M : Type 1} → statement M
-square-spec =
+pub square_spec : {M : Type 1} → statement M
+square_spec =
     tie.close
     (tie.spec
     (λ c κs. search rules)

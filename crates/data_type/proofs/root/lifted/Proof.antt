@@ -9,17 +9,17 @@ use Rattle.data_type.proofs.root.lifted.Tie as tie
 fraction : (c : tie.Start) → Moved binary32 32 c.args.t
 fraction c = moved_up binary32 32 _ (lit≤ tt) (λ e. omega (arith, e, c.requires)) c.requires.1
 
-sub-up : tie.Need-overflow-sub-up
-sub-up c = (fraction c).zeros
+overflow_sub-up : tie.Need-overflow_sub-up
+overflow_sub-up c = (fraction c).zeros
 
-shl-t3 : tie.Need-overflow-shl-t3
-shl-t3 c = omega (arith, (fraction c).short)
+overflow_shl-result : tie.Need-overflow_shl-result
+overflow_shl-result c = omega (arith, (fraction c).short)
 
-sub-t4 : tie.Need-overflow-sub-t4
-sub-t4 c = omega (arith, (fraction c).short)
+overflow_sub-result : tie.Need-overflow_sub-result
+overflow_sub-result c = omega (arith, (fraction c).short)
 
 returns : tie.Need-returns
 returns c = ((fraction c).least, (fraction c).most, omega arith, (fraction c).value)
 
-pub lifted-spec : {M : Type 1} → statement M
-lifted-spec = tie.close (tie.spec sub-up shl-t3 sub-t4 returns)
+pub lifted_spec : {M : Type 1} → statement M
+lifted_spec = tie.close (tie.spec overflow_sub-up overflow_shl-result overflow_sub-result returns)

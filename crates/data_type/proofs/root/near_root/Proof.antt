@@ -8,49 +8,49 @@ use Rattle.data_type.proofs.NearRoot.{near_stay, near_up}
 use Rattle.data_type.proofs.root.near_root.Statement.{statement}
 use Rattle.data_type.proofs.root.near_root.Tie as tie
 
-mul-n : tie.Need-overflow-mul-n
-mul-n c = search rules
+overflow_mul-n : tie.Need-overflow_mul-n
+overflow_mul-n c = search rules
 
-proposed-requires : tie.Need-proposed-requires
-proposed-requires c κs = search rules
+proposed-s-requires : tie.Need-proposed-s-requires
+proposed-s-requires c κs = search rules
 
-accepts-root-requires : tie.Need-accepts-root-requires
-accepts-root-requires c κs = search rules
+accepts_root-passed-requires : tie.Need-accepts_root-passed-requires
+accepts_root-passed-requires c κs = search rules
 
-returns : tie.Need-returns
-returns c =
-    let h : c.before.accepts-root.result ≡ true = c.if1.true in
-    accepted_root 24 _ _ (sym c.before.accepts-root.ensures ∙ h)
+returns-then-passed : tie.Need-returns-then-passed
+returns-then-passed c =
+    let h : c.accepts_root-passed.result ≡ true = c.if-passed.true in
+    accepted_root 24 _ _ (sym c.accepts_root-passed.ensures ∙ h)
 
-by-digits-requires : tie.Need-by-digits-requires
-by-digits-requires c κs = search rules
+by_digits-r-requires : tie.Need-by_digits-r-requires
+by_digits-r-requires c κs = search rules
 
-mul-if2 : tie.Need-overflow-mul-if2
-mul-if2 c = search rules
+overflow_mul-r : tie.Need-overflow_mul-r
+overflow_mul-r c = search rules
 
-sub-if2 : tie.Need-overflow-sub-if2
-sub-if2 c = search rules
+overflow_sub-n : tie.Need-overflow_sub-n
+overflow_sub-n c = search rules
 
-add-result : tie.Need-overflow-add-result
-add-result c = search rules
+overflow_add-result : tie.Need-overflow_add-result
+overflow_add-result c = search rules
 
-returns-2 : tie.Need-returns-2
-returns-2 c = near_stay 24 _ _ (by-digits-requires c.before.before c.before.by_digits.lifetimes) c.before.by_digits.ensures (omega (arith, c.if2.true))
+returns-then-n-r : tie.Need-returns-then-n-r
+returns-then-n-r c = near_stay 24 _ _ (by_digits-r-requires c.before.before c.by_digits-r.lifetimes) c.by_digits-r.ensures (omega (arith, c.if-n-r.true))
 
-returns-3 : tie.Need-returns-3
-returns-3 c = near_up 24 _ _ (by-digits-requires c.before.before c.before.by_digits.lifetimes) c.before.by_digits.ensures (omega (arith, c.if2.false))
+returns-else-n-r : tie.Need-returns-else-n-r
+returns-else-n-r c = near_up 24 _ _ (by_digits-r-requires c.before.before c.by_digits-r.lifetimes) c.by_digits-r.ensures (omega (arith, c.if-n-r.false))
 
-pub near-root-spec : {M : Type 1} → statement M
-near-root-spec =
+pub near_root_spec : {M : Type 1} → statement M
+near_root_spec =
     tie.close
     (tie.spec
-    mul-n
-    proposed-requires
-    accepts-root-requires
-    returns
-    by-digits-requires
-    mul-if2
-    sub-if2
-    add-result
-    returns-2
-    returns-3)
+    overflow_mul-n
+    proposed-s-requires
+    accepts_root-passed-requires
+    returns-then-passed
+    by_digits-r-requires
+    overflow_mul-r
+    overflow_sub-n
+    overflow_add-result
+    returns-then-n-r
+    returns-else-n-r)

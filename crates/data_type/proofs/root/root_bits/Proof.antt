@@ -12,37 +12,37 @@ use Rattle.data_type.proofs.NearRoot.{wide_even, wide_odd, near_digits, bits_is}
 use Rattle.data_type.proofs.root.root_bits.Statement.{statement}
 use Rattle.data_type.proofs.root.root_bits.Tie as tie
 
-radicand : (c : tie.Joined1) → c.if1.v * 2 ^ 23 ≡ wide 24 c.before.args.m c.before.args.d
-radicand c = ⊎_elim (λ w. ap (λ (x : ℕ). x * 2 ^ 23) w.1 ∙ wide_even 24 _ _ (lit≤ tt) w.0.taken) (λ w. ap (λ (x : ℕ). x * 2 ^ 23) w.1 ∙ wide_odd 24 _ _ w.0.left) c.if1.branch
+radicand : (c : tie.Joined-d-eq0) → c.if-d-eq0.v * 2 ^ 23 ≡ wide 24 c.args.m c.args.d
+radicand c = ⊎_elim (λ w. ap (λ (x : ℕ). x * 2 ^ 23) w.1 ∙ wide_even 24 _ _ (lit≤ tt) w.0.taken) (λ w. ap (λ (x : ℕ). x * 2 ^ 23) w.1 ∙ wide_odd 24 _ _ w.0.left) c.if-d-eq0.branch
 
-root : (c : tie.After-near-root) → c.near-root.result ≡ near_root 24 (wide 24 c.before.before.args.m c.before.before.args.d)
-root c = c.near-root.ensures ∙ ap (near_root 24) (radicand c.before)
+root : (c : tie.After-near_root-s) → c.near_root-s.result ≡ near_root 24 (wide 24 c.args.m c.args.d)
+root c = c.near_root-s.ensures ∙ ap (near_root 24) (radicand c.before)
 
-small : (c : tie.After-near-root) → c.near-root.result < 2 ^ 24
+small : (c : tie.After-near_root-s) → c.near_root-s.result < 2 ^ 24
 small c = let s = c.before.before in rw (root c) (near_digits binary32 s.args.m s.args.d s.requires.0 s.requires.1).most
 
-mul-v : tie.Need-overflow-mul-v
-mul-v c = search rules
+overflow_mul-v : tie.Need-overflow_mul-v
+overflow_mul-v c = search rules
 
-near-root-requires : tie.Need-near-root-requires
-near-root-requires c κs = let s = c.before in ⊎_elim (λ w. rw w.1 (omega (arith, s.requires))) (λ w. rw w.1 (omega (arith, s.requires))) c.if1.branch
+near_root-s-requires : tie.Need-near_root-s-requires
+near_root-s-requires c κs = let s = c.before in ⊎_elim (λ w. rw w.1 (omega (arith, s.requires))) (λ w. rw w.1 (omega (arith, s.requires))) c.if-d-eq0.branch
 
-add-result : tie.Need-overflow-add-result
-add-result c = search rules
+overflow_add-result : tie.Need-overflow_add-result
+overflow_add-result c = search rules
 
-mul-result : tie.Need-overflow-mul-result
-mul-result c = search rules
+overflow_mul-result : tie.Need-overflow_mul-result
+overflow_mul-result c = search rules
 
-cast-result : tie.Need-overflow-cast-result
-cast-result c = omega (arith, small c)
+overflow_cast-result : tie.Need-overflow_cast-result
+overflow_cast-result c = omega (arith, small c)
 
-add-result-2 : tie.Need-overflow-add-result-2
-add-result-2 c = omega (arith, small c)
+overflow_add-result-2 : tie.Need-overflow_add-result-2
+overflow_add-result-2 c = omega (arith, small c)
 
 returns : tie.Need-returns
 returns c = let s = c.before.before in rw (root c) (sym (bits_is binary32 s.args.m s.args.d))
 
-pub root-bits-spec : {M : Type 1} → statement M
-root-bits-spec =
+pub root_bits_spec : {M : Type 1} → statement M
+root_bits_spec =
     tie.close
-    (tie.spec mul-v near-root-requires add-result mul-result cast-result add-result-2 returns)
+    (tie.spec overflow_mul-v near_root-s-requires overflow_add-result overflow_mul-result overflow_cast-result overflow_add-result-2 returns)

@@ -16,77 +16,77 @@ use Rattle.data_type.proofs.root.square_root.Tie as tie
 
 -- what owning an `f32` tells: the format holds it
 held : (c : tie.Start) → T (fits binary32 c.args.x)
-held c = subst T (sym c.well-formed.0.1) tt
+held c = subst T (sym c.well_formed.0.1) tt
 
 -- what m and d are, whichever way they came: within `root_bits`'s range, and x comes to them
-scaled : (c : tie.At-match-branch) → (8388608 ≤ c.match.a.m) × (c.match.a.m < 16777216) × (c.match.a.d < 379) × (of_bits binary32 (root_bits binary32 c.match.a.m c.match.a.d) ≡ sqrt_of binary32 c.before.before.before.args.x)
+scaled : (c : tie.Joined-e) → (8388608 ≤ c.match-e.a.m) × (c.match-e.a.m < 16777216) × (c.match-e.a.d < 379) × (of_bits binary32 (root_bits binary32 c.match-e.a.m c.match-e.a.d) ≡ sqrt_of binary32 c.args.x)
 scaled c =
     let F = held c.before.before.before in
-    let l = c.before.if2.false in
+    let l = c.if-b-ge2147483648.false in
     ⊎_elim
     (λ w. let q = w.2.ensures in rw w.3 (q.0, q.1, q.2, case_sub binary32 _ F _ _ q.0 q.1 q.2 q.3 w.0.keys1 w.1.left l))
     (λ w. let r = w.0.rest in rw w.1 (omega arith, omega arith, omega arith, case_normal binary32 _ F r.0.1 r.1 l))
-    c.match.branch
+    c.match-e.branch
+
+returns-then-x : tie.Need-returns-then-x
+returns-then-x c = own_nan binary32 c.args.x c.if-x.true
+
+float_to_bits-b : tie.Need-float_to_bits-b
+float_to_bits-b c = not_nan c.args.x c.if-x.false
+
+overflow_cast-e : tie.Need-overflow_cast-e
+overflow_cast-e c = search rules
+
+returns-then-b : tie.Need-returns-then-b
+returns-then-b c = case_minus_zero binary32 _ (held c.before.before.before) c.if-b.true
+
+returns-else-b : tie.Need-returns-else-b
+returns-else-b c = case_minus binary32 _ (held c.before.before.before) c.if-b-ge2147483648.true c.if-b.false
+
+returns-then-t-eq0 : tie.Need-returns-then-t-eq0
+returns-then-t-eq0 c = case_zero binary32 _ (held c.before.before.before.before) c.in-0.is c.if-t-eq0.true
+
+lifted-a-requires : tie.Need-lifted-a-requires
+lifted-a-requires c κs = search rules
+
+returns-in-255 : tie.Need-returns-in-255
+returns-in-255 c = case_inf binary32 _ (held c.before.before.before) c.in-255.is c.if-b-ge2147483648.false c.if-x.false
+
+overflow_add-a : tie.Need-overflow_add-a
+overflow_add-a c = search rules
+
+overflow_cast-a : tie.Need-overflow_cast-a
+overflow_cast-a c = search rules
+
+overflow_add-a-in-1-to-254 : tie.Need-overflow_add-a-in-1-to-254
+overflow_add-a-in-1-to-254 c = search rules
+
+root_bits-requires : tie.Need-root_bits-requires
+root_bits-requires c κs = let h = scaled c in (h.0, h.1, h.2)
+
+float_from_bits-result : tie.Need-float_from_bits-result
+float_from_bits-result c =
+    let h = scaled c.before in
+    rw c.root_bits.ensures (root_no_nan binary32 _ _ h.0 h.1 h.2)
 
 returns : tie.Need-returns
-returns c = own_nan binary32 c.before.args.x c.if1.true
+returns c = rw c.root_bits.ensures (scaled c.before).3
 
-float-to-bits-b : tie.Need-float-to-bits-b
-float-to-bits-b c = not_nan c.before.args.x c.if1.false
-
-cast-e : tie.Need-overflow-cast-e
-cast-e c = search rules
-
-returns-2 : tie.Need-returns-2
-returns-2 c = case_minus_zero binary32 _ (held c.before.before.before) c.if3.true
-
-returns-3 : tie.Need-returns-3
-returns-3 c = case_minus binary32 _ (held c.before.before.before) c.before.if2.true c.if3.false
-
-returns-4 : tie.Need-returns-4
-returns-4 c = case_zero binary32 _ (held c.before.before.before.before) c.before.match.keys1 c.if4.true
-
-lifted-requires : tie.Need-lifted-requires
-lifted-requires c κs = search rules
-
-returns-5 : tie.Need-returns-5
-returns-5 c = case_inf binary32 _ (held c.before.before.before) c.match.keys2 c.before.if2.false c.before.before.if1.false
-
-add-t13 : tie.Need-overflow-add-t13
-add-t13 c = search rules
-
-cast-t14 : tie.Need-overflow-cast-t14
-cast-t14 c = search rules
-
-add-t15 : tie.Need-overflow-add-t15
-add-t15 c = search rules
-
-root-bits-requires : tie.Need-root-bits-requires
-root-bits-requires c κs = let h = scaled c in (h.0, h.1, h.2)
-
-float-from-bits-result : tie.Need-float-from-bits-result
-float-from-bits-result c =
-    let h = scaled c.before in
-    rw c.root-bits.ensures (root_no_nan binary32 _ _ h.0 h.1 h.2)
-
-returns-6 : tie.Need-returns-6
-returns-6 c = rw c.root-bits.ensures (scaled c.before).3
-
-pub square-root-spec : {M : Type 1} → statement M
-square-root-spec =
+pub square_root_spec : {M : Type 1} → statement M
+square_root_spec =
     tie.close
     (tie.spec
-    returns
-    float-to-bits-b
-    cast-e
-    returns-2
-    returns-3
-    returns-4
-    lifted-requires
-    returns-5
-    add-t13
-    cast-t14
-    add-t15
-    root-bits-requires
-    float-from-bits-result
-    returns-6)
+    returns-then-x
+    float_to_bits-b
+    overflow_cast-e
+    returns-then-b
+    returns-else-b
+    returns-then-t-eq0
+    lifted-a-requires
+    returns-in-255
+    overflow_add-a
+    overflow_cast-a
+    overflow_add-a-in-1-to-254
+    root_bits-requires
+    float_from_bits-result
+    returns)

@@ -8,14 +8,14 @@ use Rattle.row_major.proofs.cell.get.Statement.{statement}
 use Rattle.row_major.proofs.cell.get.Tie as tie
 
 -- the cell is one of the buffer's
-spot : (c : tie.Then1) → let a = c.before.before.before.before.args in Spot a.cols (length a.m.now) a.row a.column
-spot c = cell_fits _ _ _ _ _ c.before.before.cell.ensures c.before.is-done.ensures c.if1.true
+spot : (c : tie.Then-is_done) → let a = c.args in Spot a.cols (length a.m.now) a.row a.column
+spot c = cell_fits _ _ _ _ _ c.cell-v.ensures c.is_done.ensures c.if-is_done.true
 
-returns : tie.Need-returns
-returns c = simp (sym c.before.before.before.cell.ensures, sym c.before.before.is-done.ensures, c.before.if1.true)
+returns-then-is_done : tie.Need-returns-then-is_done
+returns-then-is_done c = simp (sym c.cell-v.ensures, sym c.is_done.ensures, c.if-is_done.true)
 
-returns-2 : tie.Need-returns-2
-returns-2 c = simp (sym c.before.before.cell.ensures, sym c.before.is-done.ensures, c.if1.false)
+returns-else-is_done : tie.Need-returns-else-is_done
+returns-else-is_done c = simp (sym c.cell-v.ensures, sym c.is_done.ensures, c.if-is_done.false)
 
 pub get_spec : {M : Type 1} → statement M
 get_spec =
@@ -27,5 +27,5 @@ get_spec =
     (λ c. omega (arith, spot c))
     (λ c. omega (arith, spot c))
     (λ c. omega (arith, spot c.before))
-    returns
-    returns-2)
+    returns-then-is_done
+    returns-else-is_done)

@@ -9,14 +9,14 @@ use Rattle.row_major.proofs.cell.set.Statement.{statement}
 use Rattle.row_major.proofs.cell.set.Tie as tie
 
 -- the cell is one of the buffer's
-spot : (c : tie.Then1) → let a = c.before.before.before.before.args in Spot a.cols (length a.m.now) a.row a.column
-spot c = cell_fits _ _ _ _ _ c.before.before.cell.ensures c.before.is-done.ensures c.if1.true
+spot : (c : tie.Then-is_done) → let a = c.args in Spot a.cols (length a.m.now) a.row a.column
+spot c = cell_fits _ _ _ _ _ c.cell-v.ensures c.is_done.ensures c.if-is_done.true
 
-returns : tie.Need-returns
-returns c = record { answer = c.before.before.cell.ensures; after = simp (sym c.before.is-done.ensures ∙ c.if1.true) }
+returns-then-is_done : tie.Need-returns-then-is_done
+returns-then-is_done c = record { answer = c.cell-v.ensures; after = simp (sym c.is_done.ensures ∙ c.if-is_done.true) }
 
-returns-2 : tie.Need-returns-2
-returns-2 c = record { answer = c.before.before.cell.ensures; after = kept_by _ c.before.before.cell.ensures c.before.is-done.ensures c.if1.false }
+returns-else-is_done : tie.Need-returns-else-is_done
+returns-else-is_done c = record { answer = c.cell-v.ensures; after = kept_by _ c.cell-v.ensures c.is_done.ensures c.if-is_done.false }
 
 pub set_spec : {M : Type 1} → statement M
 set_spec =
@@ -29,5 +29,5 @@ set_spec =
     (λ c. omega (arith, spot c))
     (λ c. omega (arith, spot c))
     (λ c. search rules)
-    returns
-    returns-2)
+    returns-then-is_done
+    returns-else-is_done)

@@ -10,17 +10,17 @@ use Rattle.row_major.proofs.cell.set_symmetric.Statement.{statement}
 use Rattle.row_major.proofs.cell.set_symmetric.Tie as tie
 
 -- both cells are the buffer's
-spots : (c : tie.Then1) → let a = c.before.before.before.before.args in Spot a.n (length a.m.now) a.row a.column × Spot a.n (length a.m.now) a.column a.row
-spots c = both_fits _ _ _ _ c.before.before.cell.ensures c.before.is-done.ensures c.if1.true
+spots : (c : tie.Then-is_done) → let a = c.args in Spot a.n (length a.m.now) a.row a.column × Spot a.n (length a.m.now) a.column a.row
+spots c = both_fits _ _ _ _ c.cell-v.ensures c.is_done.ensures c.if-is_done.true
 
-returns : tie.Need-returns
-returns c = record { answer = c.before.before.cell.ensures ∙ cell_of_square _ _ _ _; after = simp (sym c.before.is-done.ensures ∙ c.if1.true) }
+returns-then-is_done : tie.Need-returns-then-is_done
+returns-then-is_done c = record { answer = c.cell-v.ensures ∙ cell_of_square _ _ _ _; after = simp (sym c.is_done.ensures ∙ c.if-is_done.true) }
 
-returns-2 : tie.Need-returns-2
-returns-2 c = record { answer = c.before.before.cell.ensures ∙ cell_of_square _ _ _ _; after = kept_by _ c.before.before.cell.ensures c.before.is-done.ensures c.if1.false }
+returns-else-is_done : tie.Need-returns-else-is_done
+returns-else-is_done c = record { answer = c.cell-v.ensures ∙ cell_of_square _ _ _ _; after = kept_by _ c.cell-v.ensures c.is_done.ensures c.if-is_done.false }
 
-pub set-symmetric-spec : {M : Type 1} → statement M
-set-symmetric-spec =
+pub set_symmetric_spec : {M : Type 1} → statement M
+set_symmetric_spec =
     tie.close
     (tie.spec
     (λ c κs. search rules)
@@ -34,5 +34,5 @@ set-symmetric-spec =
     (λ c. omega (arith, spots c))
     (λ c. simp length-set (omega (arith, spots c)))
     (λ c. search rules)
-    returns
-    returns-2)
+    returns-then-is_done
+    returns-else-is_done)

@@ -10,20 +10,20 @@ use Rattle.row_major.proofs.copy.copy_to.Statement.{statement}
 use Rattle.row_major.proofs.copy.copy_to.Tie as tie
 
 -- the sizes are taken and the buffers hold the matrices
-shapes : (c : tie.Then1) → let a = c.before.before.before.before.before.args in Shapes a.rows a.cols (length a.m.now) (length a.target.now)
-shapes c = pair_fits _ _ _ _ c.before.before.pair.ensures c.before.is-done.ensures c.if1.true
+shapes : (c : tie.Then-is_done) → let a = c.args in Shapes a.rows a.cols (length a.m.now) (length a.target.now)
+shapes c = pair_fits _ _ _ _ c.pair-v.ensures c.is_done.ensures c.if-is_done.true
 
-returns : tie.Need-returns
-returns c = let t = c.before.before.before.before in record {
-  answer = t.before.before.pair.ensures;
-  after = written_by _ t.before.before.pair.ensures t.before.is-done.ensures t.if1.true (c.before.before.copy-cells.ensures ∙ sym (grid_flat _ _ _ _));
+returns-then-is_done : tie.Need-returns-then-is_done
+returns-then-is_done c = let t = c.before.before.before.before in record {
+  answer = t.pair-v.ensures;
+  after = written_by _ t.pair-v.ensures t.is_done.ensures t.if-is_done.true (c.copy_cells.ensures ∙ sym (grid_flat _ _ _ _));
 }
 
-returns-2 : tie.Need-returns-2
-returns-2 c = record { answer = c.before.before.pair.ensures; after = kept_by _ c.before.before.pair.ensures c.before.is-done.ensures c.if1.false }
+returns-else-is_done : tie.Need-returns-else-is_done
+returns-else-is_done c = record { answer = c.pair-v.ensures; after = kept_by _ c.pair-v.ensures c.is_done.ensures c.if-is_done.false }
 
-pub copy-to-spec : {M : Type 1} → statement M
-copy-to-spec =
+pub copy_to_spec : {M : Type 1} → statement M
+copy_to_spec =
     tie.close
     (tie.spec
     (λ c κs. search rules)
@@ -31,5 +31,5 @@ copy-to-spec =
     (λ c. omega (arith, shapes c))
     (λ c κs. (shapes c.before).both_hold)
     (λ c. search rules)
-    returns
-    returns-2)
+    returns-then-is_done
+    returns-else-is_done)

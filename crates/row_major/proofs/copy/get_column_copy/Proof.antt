@@ -10,28 +10,28 @@ use Rattle.row_major.proofs.copy.get_column_copy.Statement.{statement}
 use Rattle.row_major.proofs.copy.get_column_copy.Tie as tie
 
 -- the tests are those of the definition
-answered : (c : tie.After-then-place) → let a = c.before.before.before.before.before.args in c.then-place.result ≡ column_copy_answer a.rows a.cols (length a.m.now) (length a.column-data.now) a.column
+answered : (c : tie.After-then_place-v) → let a = c.args in c.then_place-v.result ≡ column_copy_answer a.rows a.cols (length a.m.now) (length a.column_data.now) a.column
 unfolding matrix_answer column_copy_answer
-answered c = asked _ (asked _ c.before.before.matrix.ensures c.before.then-buffer.ensures) c.then-place.ensures
+answered c = asked _ (asked _ c.matrix-held.ensures c.then_buffer-buffers.ensures) c.then_place-v.ensures
 
-returns : tie.Need-returns
-returns c =
+returns-then-is_done : tie.Need-returns-then-is_done
+returns-then-is_done c =
     let t = c.before.before.before.before in
     let e = answered t.before.before in
-    record { answer = e; after = written_by _ e t.before.is-done.ensures t.if1.true c.before.before.copy-column.ensures }
+    record { answer = e; after = written_by _ e t.is_done.ensures t.if-is_done.true c.copy_column.ensures }
 
-returns-2 : tie.Need-returns-2
-returns-2 c = let e = answered c.before.before in record { answer = e; after = kept_by _ e c.before.is-done.ensures c.if1.false }
+returns-else-is_done : tie.Need-returns-else-is_done
+returns-else-is_done c = let e = answered c.before.before in record { answer = e; after = kept_by _ e c.is_done.ensures c.if-is_done.false }
 
-pub get-column-copy-spec : {M : Type 1} → statement M
-get-column-copy-spec =
+pub get_column_copy_spec : {M : Type 1} → statement M
+get_column_copy_spec =
     tie.close
     (tie.spec
     (λ c κs. search rules)
     (λ c κs. search rules)
     (λ c κs. search rules)
     (λ c κs. search rules)
-    (λ c κs. column_fits _ _ _ _ _ (answered c.before.before.before) c.before.before.is-done.ensures c.before.if1.true)
+    (λ c κs. column_fits _ _ _ _ _ (answered c.before.before.before) c.is_done.ensures c.if-is_done.true)
     (λ c. search rules)
-    returns
-    returns-2)
+    returns-then-is_done
+    returns-else-is_done)

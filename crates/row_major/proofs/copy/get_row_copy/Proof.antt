@@ -13,28 +13,28 @@ use Rattle.row_major.proofs.copy.get_row_copy.Statement.{statement}
 use Rattle.row_major.proofs.copy.get_row_copy.Tie as tie
 
 -- the tests are those of the definition
-answered : (c : tie.After-then-place) → let a = c.before.before.before.before.before.args in c.then-place.result ≡ row_copy_answer a.rows a.cols (length a.m.now) (length a.row-data.now) a.row
+answered : (c : tie.After-then_place-v) → let a = c.args in c.then_place-v.result ≡ row_copy_answer a.rows a.cols (length a.m.now) (length a.row_data.now) a.row
 unfolding matrix_answer row_copy_answer
-answered c = asked _ (asked _ c.before.before.matrix.ensures c.before.then-buffer.ensures) c.then-place.ensures
+answered c = asked _ (asked _ c.matrix-held.ensures c.then_buffer-buffers.ensures) c.then_place-v.ensures
 
 -- the row lies within the matrix, and the other buffer holds it
-fits : (c : tie.Then1) → let a = c.before.before.before.before.before.before.before.args in RowFits a.cols (length a.m.now) (length a.row-data.now) a.row
-fits c = row_fits _ _ _ _ _ (answered c.before.before) c.before.is-done.ensures c.if1.true
+fits : (c : tie.Then-is_done) → let a = c.args in RowFits a.cols (length a.m.now) (length a.row_data.now) a.row
+fits c = row_fits _ _ _ _ _ (answered c.before.before) c.is_done.ensures c.if-is_done.true
 
-returns : tie.Need-returns
-returns c =
+returns-then-is_done : tie.Need-returns-then-is_done
+returns-then-is_done c =
     let t = c.before.before.before.before.before in
-    let a = t.before.before.before.before.before.before.before.args in
+    let a = t.args in
     record {
       answer = answered t.before.before;
-      after = written_by _ (answered t.before.before) t.before.is-done.ensures t.if1.true (c.before.before.copy-cells.ensures ∙ run_part (a.row * a.cols) a.cols a.m.now a.row-data.now);
+      after = written_by _ (answered t.before.before) t.is_done.ensures t.if-is_done.true (c.copy_cells.ensures ∙ run_part (a.row * a.cols) a.cols a.m.now a.row_data.now);
     }
 
-returns-2 : tie.Need-returns-2
-returns-2 c = let e = answered c.before.before in record { answer = e; after = kept_by _ e c.before.is-done.ensures c.if1.false }
+returns-else-is_done : tie.Need-returns-else-is_done
+returns-else-is_done c = let e = answered c.before.before in record { answer = e; after = kept_by _ e c.is_done.ensures c.if-is_done.false }
 
-pub get-row-copy-spec : {M : Type 1} → statement M
-get-row-copy-spec =
+pub get_row_copy_spec : {M : Type 1} → statement M
+get_row_copy_spec =
     tie.close
     (tie.spec
     (λ c κs. search rules)
@@ -48,5 +48,5 @@ get-row-copy-spec =
     (λ c. search rules)
     (λ c κs. (simp part_length (omega (arith, fits c.before.before)), (fits c.before.before).into_holds))
     (λ c. search rules)
-    returns
-    returns-2)
+    returns-then-is_done
+    returns-else-is_done)

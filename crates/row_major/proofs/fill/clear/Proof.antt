@@ -6,7 +6,7 @@ use Rattle.row_major.proofs.fill.clear.Tie as tie
 
 returns : tie.Need-returns
 unfolding of_bits
-returns c = c.before.before.set_all.ensures
+returns c = c.set_all.ensures
 
 pub clear_spec : {M : Type 1} → statement M
 clear_spec =

@@ -10,30 +10,30 @@ use Rattle.row_major.proofs.fill.make_comatrix.Statement.{statement}
 use Rattle.row_major.proofs.fill.make_comatrix.Tie as tie
 
 -- the size is taken and the buffer holds the matrix
-shape : (c : tie.Then1) → let a = c.before.before.before.before.args in Shape a.n a.n (length a.m.now)
-shape c = square_fits _ _ c.before.before.square.ensures c.before.is-done.ensures c.if1.true
+shape : (c : tie.Then-is_done) → let a = c.args in Shape a.n a.n (length a.m.now)
+shape c = square_fits _ _ c.square-v.ensures c.is_done.ensures c.if-is_done.true
 
-fill-diagonal-requires : tie.Need-fill-diagonal-requires
-fill-diagonal-requires c κs = run_holds _ _ _ _ _ _ c.before.before.before.fill-cells.ensures (shape c.before.before.before.before.before).holds
+fill_diagonal-requires : tie.Need-fill_diagonal-requires
+fill_diagonal-requires c κs = run_holds _ _ _ _ _ _ c.fill_cells.ensures (shape c.before.before.before.before.before).holds
 
-returns : tie.Need-returns
-returns c = let t = c.before.before.before.before.before.before.before.before in record {
-  answer = t.before.before.square.ensures;
-  after = written_by _ t.before.before.square.ensures t.before.is-done.ensures t.if1.true (comatrix _ _ _ _ _ _ (shape t).holds c.before.before.before.before.before.before.fill-cells.ensures c.before.before.fill-diagonal.ensures);
+returns-then-is_done : tie.Need-returns-then-is_done
+returns-then-is_done c = let t = c.before.before.before.before.before.before.before.before in record {
+  answer = t.square-v.ensures;
+  after = written_by _ t.square-v.ensures t.is_done.ensures t.if-is_done.true (comatrix _ _ _ _ _ _ (shape t).holds c.fill_cells.ensures c.fill_diagonal.ensures);
 }
 
-returns-2 : tie.Need-returns-2
-returns-2 c = record { answer = c.before.before.square.ensures; after = kept_by _ c.before.before.square.ensures c.before.is-done.ensures c.if1.false }
+returns-else-is_done : tie.Need-returns-else-is_done
+returns-else-is_done c = record { answer = c.square-v.ensures; after = kept_by _ c.square-v.ensures c.is_done.ensures c.if-is_done.false }
 
-pub make-comatrix-spec : {M : Type 1} → statement M
-make-comatrix-spec =
+pub make_comatrix_spec : {M : Type 1} → statement M
+make_comatrix_spec =
     tie.close
     (tie.spec
     (λ c κs. search rules)
     (λ c κs. search rules)
     (λ c. omega (arith, shape c))
     (λ c κs. (shape c.before).holds)
-    fill-diagonal-requires
+    fill_diagonal-requires
     (λ c. search rules)
-    returns
-    returns-2)
+    returns-then-is_done
+    returns-else-is_done)

@@ -6,10 +6,10 @@ use Rattle.row_major.proofs.fill.make_identity.Tie as tie
 
 returns : tie.Need-returns
 unfolding of_bits
-returns c = c.before.before.make-comatrix.ensures
+returns c = c.make_comatrix.ensures
 
-pub make-identity-spec : {M : Type 1} → statement M
-make-identity-spec =
+pub make_identity_spec : {M : Type 1} → statement M
+make_identity_spec =
     tie.close
     (tie.spec
     (λ c κs. search rules)

@@ -6,10 +6,10 @@ use Rattle.row_major.proofs.fill.make_scalar.Tie as tie
 
 returns : tie.Need-returns
 unfolding of_bits
-returns c = c.before.before.make-comatrix.ensures
+returns c = c.make_comatrix.ensures
 
-pub make-scalar-spec : {M : Type 1} → statement M
-make-scalar-spec =
+pub make_scalar_spec : {M : Type 1} → statement M
+make_scalar_spec =
     tie.close
     (tie.spec
     (λ c κs. search rules)

@@ -10,20 +10,20 @@ use Rattle.row_major.proofs.fill.set_all.Statement.{statement}
 use Rattle.row_major.proofs.fill.set_all.Tie as tie
 
 -- the sizes are taken and the buffer holds the matrix
-shape : (c : tie.Then1) → let a = c.before.before.before.before.args in Shape a.rows a.cols (length a.m.now)
-shape c = matrix_fits _ _ _ c.before.before.matrix.ensures c.before.is-done.ensures c.if1.true
+shape : (c : tie.Then-is_done) → let a = c.args in Shape a.rows a.cols (length a.m.now)
+shape c = matrix_fits _ _ _ c.matrix-v.ensures c.is_done.ensures c.if-is_done.true
 
-returns : tie.Need-returns
-returns c = let t = c.before.before.before.before in record {
-  answer = t.before.before.matrix.ensures;
-  after = written_by _ t.before.before.matrix.ensures t.before.is-done.ensures t.if1.true (c.before.before.fill-cells.ensures ∙ sym (grid_flat _ _ _ _));
+returns-then-is_done : tie.Need-returns-then-is_done
+returns-then-is_done c = let t = c.before.before.before.before in record {
+  answer = t.matrix-v.ensures;
+  after = written_by _ t.matrix-v.ensures t.is_done.ensures t.if-is_done.true (c.fill_cells.ensures ∙ sym (grid_flat _ _ _ _));
 }
 
-returns-2 : tie.Need-returns-2
-returns-2 c = record { answer = c.before.before.matrix.ensures; after = kept_by _ c.before.before.matrix.ensures c.before.is-done.ensures c.if1.false }
+returns-else-is_done : tie.Need-returns-else-is_done
+returns-else-is_done c = record { answer = c.matrix-v.ensures; after = kept_by _ c.matrix-v.ensures c.is_done.ensures c.if-is_done.false }
 
-pub set-all-spec : {M : Type 1} → statement M
-set-all-spec =
+pub set_all_spec : {M : Type 1} → statement M
+set_all_spec =
     tie.close
     (tie.spec
     (λ c κs. search rules)
@@ -31,5 +31,5 @@ set-all-spec =
     (λ c. omega (arith, shape c))
     (λ c κs. omega (arith, shape c.before))
     (λ c. search rules)
-    returns
-    returns-2)
+    returns-then-is_done
+    returns-else-is_done)

@@ -6,10 +6,10 @@ use Rattle.row_major.proofs.fill.set_zero.Tie as tie
 
 returns : tie.Need-returns
 unfolding of_bits
-returns c = c.before.before.set_all.ensures
+returns c = c.set_all.ensures
 
-pub set-zero-spec : {M : Type 1} → statement M
-set-zero-spec =
+pub set_zero_spec : {M : Type 1} → statement M
+set_zero_spec =
     tie.close
     (tie.spec
     (λ c κs. search rules)

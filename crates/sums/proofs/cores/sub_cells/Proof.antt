@@ -6,14 +6,14 @@ use Rattle.grids.proofs.Pairs.{Storing, none-stored, stored, all_stored}
 use Rattle.sums.proofs.cores.sub_cells.Statement.{statement}
 use Rattle.sums.proofs.cores.sub_cells.Tie as tie
 
-abbrev invariant-loop : tie.invariant-loop
+abbrev invariant-loop : tie.invariant-loop-k
 invariant-loop n a b c₀ k₀ c k = Storing (sub binary32) n a b c₀ c k
 
-abbrev decreases-loop : tie.decreases-loop
+abbrev decreases-loop : tie.decreases-loop-k
 decreases-loop n a b c₀ k₀ c k = n - k
 
-pub sub-cells-spec : {M : Type 1} → statement M
-sub-cells-spec =
+pub sub_cells_spec : {M : Type 1} → statement M
+sub_cells_spec =
     tie.close
     (tie.spec
     invariant-loop
@@ -27,6 +27,6 @@ sub-cells-spec =
     (λ c. omega arith)
     (λ c. omega arith)
     (λ c. omega arith)
-    (λ c. stored c.before.before.before.loop.invariant c.before.before.loop-test.true)
-    (λ c. c.before.loop.invariant.writing.size)
-    (λ c. all_stored c.before.loop.invariant c.loop-test.false))
+    (λ c. stored c.loop-k.invariant c.loop-k-test.true)
+    (λ c. c.loop-k.invariant.writing.size)
+    (λ c. all_stored c.loop-k.invariant c.loop-k-test.false))

@@ -6,14 +6,14 @@ use Rattle.grids.proofs.Pairs.{Storing, none-stored, stored_b, all_stored}
 use Rattle.sums.proofs.cores.sub_cells_b.Statement.{statement}
 use Rattle.sums.proofs.cores.sub_cells_b.Tie as tie
 
-abbrev invariant-loop : tie.invariant-loop
+abbrev invariant-loop : tie.invariant-loop-i
 invariant-loop n a b₀ i₀ b i = Storing (sub binary32) n a b₀ b₀ b i
 
-abbrev decreases-loop : tie.decreases-loop
+abbrev decreases-loop : tie.decreases-loop-i
 decreases-loop n a b₀ i₀ b i = n - i
 
-pub sub-cells-b-spec : {M : Type 1} → statement M
-sub-cells-b-spec =
+pub sub_cells_b_spec : {M : Type 1} → statement M
+sub_cells_b_spec =
     tie.close
     (tie.spec
     invariant-loop
@@ -27,6 +27,6 @@ sub-cells-b-spec =
     (λ c. omega arith)
     (λ c. omega arith)
     (λ c. omega arith)
-    (λ c. stored_b c.before.before.before.loop.invariant c.before.before.loop-test.true)
-    (λ c. c.before.loop.invariant.writing.size)
-    (λ c. all_stored c.before.loop.invariant c.loop-test.false))
+    (λ c. stored_b c.loop-i.invariant c.loop-i-test.true)
+    (λ c. c.loop-i.invariant.writing.size)
+    (λ c. all_stored c.loop-i.invariant c.loop-i-test.false))
