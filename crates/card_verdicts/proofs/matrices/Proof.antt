@@ -23,15 +23,15 @@ at_q : (c : tie.In-Next-2) → (entries_line 8 a_key (c.args.n * c.args.n) (behi
 at_q c = entries_right c.args.s.now c.args.at 3 c.requires.0 8 _ a_key _ (sym c.in-Next.is ∙ c.entries_line.ensures)
 
 -- line 5 is right, and line 6 begins behind it
-at_h : (c : tie.In-Next-entries_line-4) → (entries_line 8 q_key (c.args.n * c.args.n) (behind_lines 4 c.args.s.now) ≡ true) × Here c.args.s.now c.in-Next-entries_line.h 5
+at_h : (c : tie.In-Next-entries_line-4) → (entries_line 8 q_key (c.args.n * c.args.n) (behind_lines 4 c.args.s.now) ≡ true) × Here c.args.s.now c.in-Next.h 5
 at_h c = entries_right c.args.s.now _ 4 (at_q c.before.before.before.before).1 8 _ q_key _ (sym c.in-Next-entries_line.is ∙ c.entries_line-2.ensures)
 
 -- line 6 is right, and line 7 begins behind it
-at_r : (c : tie.In-Next-entries_line-2-2) → (entries_line 8 h_key (c.args.m * c.args.n) (behind_lines 5 c.args.s.now) ≡ true) × Here c.args.s.now c.in-Next-entries_line-2.r 6
+at_r : (c : tie.In-Next-entries_line-2-2) → (entries_line 8 h_key (c.args.m * c.args.n) (behind_lines 5 c.args.s.now) ≡ true) × Here c.args.s.now c.in-Next-entries_line.r 6
 at_r c = entries_right c.args.s.now _ 5 (at_h c.before.before.before.before).1 8 _ h_key _ (sym c.in-Next-entries_line-2.is ∙ c.entries_line-3.ensures)
 
 -- line 7 is right, and line 8 begins behind it
-at_end : (c : tie.In-Next-entries_line-3-2) → (entries_line 8 r_key (c.args.m * c.args.m) (behind_lines 6 c.args.s.now) ≡ true) × Here c.args.s.now c.in-Next-entries_line-3.end 7
+at_end : (c : tie.In-Next-entries_line-3-2) → (entries_line 8 r_key (c.args.m * c.args.m) (behind_lines 6 c.args.s.now) ≡ true) × Here c.args.s.now c.in-Next-entries_line.end 7
 at_end c = entries_right c.args.s.now _ 6 (at_r c.before.before.before.before).1 8 _ r_key _ (sym c.in-Next-entries_line-3.is ∙ c.entries_line-4.ensures)
 
 slice-aggregate-entries-line : tie.Need-slice-aggregate-entries-line

@@ -9,11 +9,12 @@ use Rattle.grids.proofs.Loops.{Writing, all_written}
 use Rattle.thin_products.specs.Thin.{number_at}
 use Rattle.thin_products.proofs.Laws as law
 use Rattle.thin_products.proofs.put_some.Statement.{statement}
+use Rattle.thin_products.proofs.put_some.Lts.{then-cols-ge2, else-cols-ge2}
 use Rattle.thin_products.proofs.put_some.Tie as tie
 
 -- one or two are stored
 some_put : (c : tie.Joined-cols-ge2) → let m = c.args in Writing m.at m.cols (number_at m.t) m.c.now c.if-cols-ge2.c (min m.cols 2)
-some_put c = law.some_put c.requires.0 refl refl (⊎_elim (λ s. inl (s.0.taken, s.1)) (λ s. inr (s.0.left, s.1)) c.if-cols-ge2.branch)
+some_put c = law.some_put c.requires.0 refl refl (elim c.if-cols-ge2.branch [ then-cols-ge2 w ↦ inl (w.if-cols-ge2.true, w.c-is) | else-cols-ge2 w ↦ inr (w.if-cols-ge2.false, w.c-is) ])
 
 -- and the third
 third_put : (c : tie.Then-cols-ge3) → let m = c.args in Writing m.at m.cols (number_at m.t) m.c.now (set c.if-cols-ge2.c (m.at + 2) m.t.t2) 3

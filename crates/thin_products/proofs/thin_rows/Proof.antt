@@ -11,6 +11,7 @@ use Rattle.entries.specs.Entries.{times}
 use Rattle.thin_products.specs.Thin.{strided}
 use Rattle.thin_products.proofs.Laws.{Offsets, offsets, columns_in, row_put}
 use Rattle.thin_products.proofs.thin_rows.Statement.{statement}
+use Rattle.thin_products.proofs.thin_rows.Lts.{then-cols-ge2, else-cols-ge2, then-cols-ge3, else-cols-ge3}
 use Rattle.thin_products.proofs.thin_rows.Tie as tie
 
 abbrev invariant-loop : tie.invariant-loop-r
@@ -23,7 +24,7 @@ decreases-loop rows inner cols a b up over c₀ one two r₀ c r = rows - r
 apart : (c : tie.Joined-cols-ge3 invariant-loop decreases-loop) → let m = c.args in Offsets m.cols m.over c.if-cols-ge2.one c.if-cols-ge3.two
 apart c =
     let given = c.requires in
-    offsets given.0 given.1 (⊎_elim (λ s. inl (s.0.taken, s.1)) (λ s. inr (s.0.left, s.1)) c.if-cols-ge2.branch) (⊎_elim (λ s. inl (s.0.taken, s.1)) (λ s. inr (s.0.left, s.1)) c.if-cols-ge3.branch)
+    offsets given.0 given.1 (elim c.if-cols-ge2.branch [ then-cols-ge2 w ↦ inl (w.if-cols-ge2.true, w.one-is) | else-cols-ge2 w ↦ inr (w.if-cols-ge2.false, w.one-is) ]) (elim c.if-cols-ge3.branch [ then-cols-ge3 w ↦ inl (w.if-cols-ge3.true, w.two-is) | else-cols-ge3 w ↦ inr (w.if-cols-ge3.false, w.two-is) ])
 
 -- row r lies in a and in c
 in_a : (c : tie.In-loop-r invariant-loop decreases-loop) → let m = c.args in c.loop-r.r * m.inner + m.inner ≤ length m.a.now

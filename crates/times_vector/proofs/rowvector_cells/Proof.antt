@@ -25,13 +25,13 @@ returns-then-inner-eq3 : tie.Need-returns-then-inner-eq3
 returns-then-inner-eq3 c =
     let m = c.args in
     let v = c.by_three in
-    subst (λ (k : ℕ). v.new.1.1.1.0 ≡ run 0 m.rows (row_product binary32 k m.a.now m.x.now) m.c.now) (sym c.if-inner-eq3.true) v.ensures
+    subst (λ (k : ℕ). v.new.c ≡ run 0 m.rows (row_product binary32 k m.a.now m.x.now) m.c.now) (sym c.if-inner-eq3.true) v.ensures
 
 returns-then-inner-eq6 : tie.Need-returns-then-inner-eq6
 returns-then-inner-eq6 c =
     let m = c.args in
     let v = c.by_six in
-    subst (λ (k : ℕ). v.new.1.1.1.0 ≡ run 0 m.rows (row_product binary32 k m.a.now m.x.now) m.c.now) (sym c.if-inner-eq6.true) v.ensures
+    subst (λ (k : ℕ). v.new.c ≡ run 0 m.rows (row_product binary32 k m.a.now m.x.now) m.c.now) (sym c.if-inner-eq6.true) v.ensures
 
 pub rowvector_cells_spec : {M : Type 1} → statement M
 rowvector_cells_spec =

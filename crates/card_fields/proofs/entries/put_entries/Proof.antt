@@ -53,7 +53,7 @@ loop-i-preserved c =
       omega arith,
       omega arith,
       omega (arith, c.put_field.auto),
-      turn 8 binary32 a.x.now (l.i - 1) (omega arith) a.into-1.now l.into-1 _ a.at l.p _ _ l.invariant.4 l.invariant.2 c.bits_of.ensures (l.i + 1 - 1) (omega arith) c.put_field.ensures,
+      turn 8 binary32 a.x.now (l.i - 1) (omega arith) a.into.now l.into _ a.at l.p _ _ l.invariant.4 l.invariant.2 c.bits_of.ensures (l.i + 1 - 1) (omega arith) c.put_field.ensures,
     )
 
 overflow_sub-k : tie.Need-overflow_sub-k invariant-loop decreases-loop
@@ -82,8 +82,8 @@ returns c =
     let a = c.args in
     let l = c.loop-i in
     let whole : l.i ≡ a.k = omega arith in
-    let put = l.invariant.4 ∙ ap (λ (j : ℕ). sets a.into-1.now a.at (ready 8 (patterns binary32 (j - 1) a.x.now))) whole in
-    (omega arith, last 8 binary32 a.x.now (a.k - 1) (omega arith) a.into-1.now l.into-1 _ a.at l.p _ _ put (omega arith) c.bits_of-2.ensures a.k (omega arith) c.put_field-2.ensures)
+    let put = l.invariant.4 ∙ ap (λ (j : ℕ). sets a.into.now a.at (ready 8 (patterns binary32 (j - 1) a.x.now))) whole in
+    (omega arith, last 8 binary32 a.x.now (a.k - 1) (omega arith) a.into.now l.into _ a.at l.p _ _ put (omega arith) c.bits_of-2.ensures a.k (omega arith) c.put_field-2.ensures)
 
 pub put_entries_spec : {M : Type 1} → statement M
 put_entries_spec =
