@@ -10,30 +10,19 @@ use Rattle.four_states.proofs.predict_four.Tie as tie
 abbrev start : tie.After-read_sixteen-m → tie.Start
 start c = c.before.before.before.before.before.before.before
 
-abbrev made : tie.After-times_plus-n → tie.Start
-made c = start c.before.before.before.before.before.before.before.before.before
-
 returns : tie.Need-returns
 unfolding run
 returns c =
-    let p = c.before.before in
-    let temp = p.before.before.before.before in
-    let predicted = temp.before.before.before.before in
-    let x = predicted.before.before.before.before in
-    let n = x.before.before in
-    let t = n.before.before.before in
-    let on = t.before.before.before in
-    let a = on.before.before.before in
-    let args = (start a).args in
+    let args = c.args in
     let A = cell 4 args.a.now in
     let P = cell 4 args.p.now in
-    let v = four_is _ (numbers args.x.now) on.read.ensures in (
-      x_left A a.read_sixteen-m.ensures (numbers args.x.now) v on.all_on-next.ensures args.x.now x.put.ensures,
+    let v = four_is _ (numbers args.x.now) c.read.ensures in (
+      x_left A c.read_sixteen-m.ensures (numbers args.x.now) v c.all_on-next.ensures args.x.now c.put.ensures,
       (
-        x_left A a.read_sixteen-m.ensures (numbers args.x.now) v on.all_on-next.ensures args.predicted.now predicted.put-2.ensures,
+        x_left A c.read_sixteen-m.ensures (numbers args.x.now) v c.all_on-next.ensures args.predicted.now c.put-2.ensures,
         (
-          P-left A a.read_sixteen-m.ensures P t.read_sixteen.ensures t.all_times-t.ensures (cell 4 args.q.now) n.turned.ensures n.read_sixteen-2.ensures n.times_plus-n.ensures args.p.now p.put_sixteen-2.ensures,
-          temp_left A a.read_sixteen-m.ensures P t.read_sixteen.ensures t.all_times-t.ensures args.temp.now temp.put_sixteen.ensures,
+          P-left A c.read_sixteen-m.ensures P c.read_sixteen.ensures c.all_times-t.ensures (cell 4 args.q.now) c.turned.ensures c.read_sixteen-2.ensures c.times_plus-n.ensures args.p.now c.put_sixteen-2.ensures,
+          temp_left A c.read_sixteen-m.ensures P c.read_sixteen.ensures c.all_times-t.ensures args.temp.now c.put_sixteen.ensures,
         ),
       ),
     )
@@ -43,17 +32,17 @@ predict_four_spec =
     tie.close
     (tie.spec
     (λ c κs. c.requires.1)
-    (λ c κs. (start c.before).requires.0)
+    (λ c κs. c.requires.0)
     (λ c κs. tt)
-    (λ c κs. (start c.before.before.before.before).requires.2)
+    (λ c κs. c.requires.2)
     (λ c κs. tt)
     (λ c κs. tt)
-    (λ c κs. (start c.before.before.before.before.before.before.before).requires.3)
+    (λ c κs. c.requires.3)
     (λ c κs. tt)
-    (λ c κs. (made c.before).requires.0)
-    (λ c κs. (made c.before.before.before.before.before).requires.4)
-    (λ c κs. (made c.before.before.before.before.before.before.before.before.before).requires.5)
-    (λ c κs. (made c.before.before.before.before.before.before.before.before.before.before.before.before.before).requires.2)
+    (λ c κs. c.requires.0)
+    (λ c κs. c.requires.4)
+    (λ c κs. c.requires.5)
+    (λ c κs. c.requires.2)
     (λ c. c.x-1.given)
     (λ c. c.p-1.given)
     (λ c. c.predicted-1.given)

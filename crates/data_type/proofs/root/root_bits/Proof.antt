@@ -10,10 +10,11 @@ use Rattle.numbers.specs.Root.{near_root}
 use Rattle.numbers.proofs.Exists.{wide}
 use Rattle.data_type.proofs.NearRoot.{wide_even, wide_odd, near_digits, bits_is}
 use Rattle.data_type.proofs.root.root_bits.Statement.{statement}
+use Rattle.data_type.proofs.root.root_bits.Lts.{then-d-eq0, else-d-eq0}
 use Rattle.data_type.proofs.root.root_bits.Tie as tie
 
 radicand : (c : tie.Joined-d-eq0) → c.if-d-eq0.v * 2 ^ 23 ≡ wide 24 c.args.m c.args.d
-radicand c = ⊎_elim (λ w. ap (λ (x : ℕ). x * 2 ^ 23) w.1 ∙ wide_even 24 _ _ (lit≤ tt) w.0.taken) (λ w. ap (λ (x : ℕ). x * 2 ^ 23) w.1 ∙ wide_odd 24 _ _ w.0.left) c.if-d-eq0.branch
+radicand c = elim c.if-d-eq0.branch [ then-d-eq0 w ↦ ap (λ (x : ℕ). x * 2 ^ 23) w.v-is ∙ wide_even 24 _ _ (lit≤ tt) w.if-d-eq0.true | else-d-eq0 w ↦ ap (λ (x : ℕ). x * 2 ^ 23) w.v-is ∙ wide_odd 24 _ _ w.if-d-eq0.false ]
 
 root : (c : tie.After-near_root-s) → c.near_root-s.result ≡ near_root 24 (wide 24 c.args.m c.args.d)
 root c = c.near_root-s.ensures ∙ ap (near_root 24) (radicand c.before)
@@ -25,7 +26,7 @@ overflow_mul-v : tie.Need-overflow_mul-v
 overflow_mul-v c = search rules
 
 near_root-s-requires : tie.Need-near_root-s-requires
-near_root-s-requires c κs = let s = c.before in ⊎_elim (λ w. rw w.1 (omega (arith, s.requires))) (λ w. rw w.1 (omega (arith, s.requires))) c.if-d-eq0.branch
+near_root-s-requires c κs = elim c.if-d-eq0.branch [ then-d-eq0 w ↦ rw w.v-is (omega (arith, c.requires)) | else-d-eq0 w ↦ rw w.v-is (omega (arith, c.requires)) ]
 
 overflow_add-result : tie.Need-overflow_add-result
 overflow_add-result c = search rules

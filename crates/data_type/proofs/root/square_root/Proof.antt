@@ -12,6 +12,7 @@ use Rattle.data_type.proofs.Patterns.{root_no_nan}
 use Rattle.data_type.proofs.NotNan.{not_nan}
 use Rattle.data_type.proofs.Cases.{own_nan, case_zero, case_sub, case_normal, case_inf, case_minus_zero, case_minus}
 use Rattle.data_type.proofs.root.square_root.Statement.{statement}
+use Rattle.data_type.proofs.root.square_root.Lts.{in-0+else-t-eq0, in-1-to-254}
 use Rattle.data_type.proofs.root.square_root.Tie as tie
 
 -- what owning an `f32` tells: the format holds it
@@ -23,10 +24,10 @@ scaled : (c : tie.Joined-e) → (8388608 ≤ c.match-e.a.m) × (c.match-e.a.m < 
 scaled c =
     let F = held c.before.before.before in
     let l = c.if-b-ge2147483648.false in
-    ⊎_elim
-    (λ w. let q = w.2.ensures in rw w.3 (q.0, q.1, q.2, case_sub binary32 _ F _ _ q.0 q.1 q.2 q.3 w.0.keys1 w.1.left l))
-    (λ w. let r = w.0.rest in rw w.1 (omega arith, omega arith, omega arith, case_normal binary32 _ F r.0.1 r.1 l))
-    c.match-e.branch
+    elim c.match-e.branch [
+      in-0+else-t-eq0 w ↦ let q = w.lifted-a.ensures in rw w.a-is (q.0, q.1, q.2, case_sub binary32 _ F _ _ q.0 q.1 q.2 q.3 w.in-0.is w.if-t-eq0.false l)
+      | in-1-to-254 w ↦ rw w.a-is (omega arith, omega arith, omega arith, case_normal binary32 _ F (omega (arith, w.in-1-to-254)) (omega (arith, w.in-1-to-254)) l)
+    ]
 
 returns-then-x : tie.Need-returns-then-x
 returns-then-x c = own_nan binary32 c.args.x c.if-x.true

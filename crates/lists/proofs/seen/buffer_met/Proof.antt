@@ -25,8 +25,8 @@ returns-then-w-len c =
     let read = c.word_at-w.ensures in
     ⊎_elim
     (λ w. other_length a.s.now a.o a.buffer a.cells.now a.len a.wanted some _ read (λ e. omega arith))
-    (λ w. too_long a.s.now a.o a.buffer a.cells.now a.len a.wanted some _ read (ltb-true 304 _ w.1.taken))
-    c.then-w-len.branch
+    (λ w. too_long a.s.now a.o a.buffer a.cells.now a.len a.wanted some _ read (omega arith))
+    c.then-w-len.either
 
 cells_met-requires : tie.Need-cells_met-requires
 cells_met-requires c κs = search rules
