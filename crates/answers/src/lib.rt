@@ -3,6 +3,8 @@
 // A function of the layers above asks its tests in the order of R4: then_size for each size,
 // then_buffer or then_matrix for each buffer, then_place for the row and the column. Each hands an
 // earlier refusal on, so the first one stays.
+#![tactic(auto)]
+
 ghost use Rattle.std.specs.Prelude.{◌≡◌, ◌*◌, ltb, get_or};
 ghost use Rattle.answers.specs.Answers.{number_of, carried_by, is_done, first_of};
 ghost use Rattle.answers.specs.Tests.{size_taken, size_test, buffer_test, place_test};

@@ -1,4 +1,6 @@
 // Settings cards, for C and Rust programs.
+#![tactic(auto)]
+
 ghost use Rattle.std.specs.Float.{binary32};
 ghost use Rattle.c_codes.specs.Code.{Told};
 ghost use Rattle.c_cards.specs.Into.{CardInto};

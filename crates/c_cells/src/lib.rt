@@ -2,6 +2,8 @@
 //
 // A slice arrives as a pointer and a length. Each function hands on to a public function of
 // `row_major`, says its answer as a code, and keeps that function's promise.
+#![tactic(auto)]
+
 ghost use Rattle.numbers.specs.Reciprocal.{one};
 ghost use Rattle.numbers.specs.Sums.{plus0};
 ghost use Rattle.grids.specs.Cells.{Set, SetBoth, RowCopied, ColumnCopied, Copied, Filled, DiagonalSet, Comatrix};

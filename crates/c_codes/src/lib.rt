@@ -1,4 +1,6 @@
 // The code of an answer: one number for callers that have no enum of ours.
+#![tactic(auto)]
+
 ghost use Rattle.std.specs.Prelude.{◌≡◌, min};
 ghost use Rattle.c_codes.specs.Code.{code_of};
 

@@ -1,4 +1,6 @@
 // A row of feeders, for C and Rust programs: the records themselves, as many as lie behind a pointer.
+#![tactic(auto)]
+
 ghost use Rattle.std.specs.Prelude.{◌≡◌};
 ghost use Rattle.rows.specs.Rows.{PredictedRow};
 ghost use Rattle.c_codes.specs.Code.{Told};

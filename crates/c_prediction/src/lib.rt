@@ -2,6 +2,8 @@
 //
 // A slice arrives as a pointer and a length. Each function hands on to a public function of the crates
 // below, says its answer as a code, and keeps that function's promise.
+#![tactic(auto)]
+
 ghost use Rattle.std.specs.Float.{binary32};
 ghost use Rattle.filters.specs.Predicted.{PredictedX, PredictedP, Predicted};
 ghost use Rattle.c_codes.specs.Code.{Told};

@@ -2,5 +2,7 @@
 //
 // A slice arrives as a pointer and a length. Each function hands on to a public function of the crates
 // below, says its answer as a code, and keeps that function's promise.
+#![tactic(auto)]
+
 pub mod product;
 pub mod sum;

@@ -1,4 +1,6 @@
 // The filter of one yarn, for C and Rust programs: the record itself, behind a pointer.
+#![tactic(auto)]
+
 ghost use Rattle.std.specs.Prelude.{◌≡◌};
 ghost use Rattle.one_state.specs.OneState.{predicted};
 ghost use Rattle.c_codes.specs.Code.{Told};

@@ -1,4 +1,6 @@
 // The matrices of a card that was read, written again and compared with what a line expects.
+#![tactic(auto)]
+
 mod again;
 
 pub use again::write_again;

@@ -1,4 +1,6 @@
 // The cards of a list: the bytes that a line holds, and a card that is made of another.
+#![tactic(auto)]
+
 mod edit;
 mod packed;
 

@@ -1,5 +1,7 @@
 // The lines of a settings card, one at a time: each function judges what stands at a position of the
 // card, or reads numbers that were judged. For `card_verdicts` and `cards`.
+#![tactic(auto)]
+
 mod counts;
 mod digits;
 mod eight;

@@ -1,5 +1,7 @@
 // Lists of settings cards and answers: what reading a line's cards and writing them again finds, compared
 // with what the line expects.
+#![tactic(auto)]
+
 mod compare;
 mod line;
 

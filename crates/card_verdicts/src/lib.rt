@@ -1,4 +1,6 @@
 // Which settings card is taken (R34). For `cards`.
+#![tactic(auto)]
+
 ghost use Rattle.std.specs.Prelude.{◌≡◌, false, ◌≤◌, length};
 ghost use Rattle.card_text.specs.Lines.{ends};
 ghost use Rattle.card_text.specs.Card.{card_answer};

@@ -1,5 +1,7 @@
 // What a fitter is told of a card: the card again, or what is wrong with which of its lines. For the
 // program `card`.
+#![tactic(auto)]
+
 mod words;
 
 ghost use Rattle.std.specs.Prelude.{◌≡◌, ◌≤◌, length};

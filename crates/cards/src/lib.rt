@@ -1,4 +1,6 @@
 // Settings cards: the reader (R34) and the writer (R35).
+#![tactic(auto)]
+
 mod matrices;
 
 ghost use Rattle.std.specs.Prelude.{◌≡◌, ◌≤◌};

@@ -1,4 +1,6 @@
 // The decomposition of a symmetric matrix into its lower Cholesky factor.
+#![tactic(auto)]
+
 pub mod cores;
 mod decompose;
 mod upper;

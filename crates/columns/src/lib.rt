@@ -1,5 +1,7 @@
 // The columns of a lower factor, from the left, until a pivot is refused; for the crates above, which
 // have tested size and buffer; not for users.
+#![tactic(auto)]
+
 ghost use Rattle.std.specs.Prelude.{◌≡◌, ◌+◌, ◌*◌, ◌<◌, ◌≤◌, length, get_or};
 ghost use Rattle.std.specs.Float.{binary32, nan};
 ghost use Rattle.grids.specs.Grid.{grid, cell};

@@ -1,4 +1,6 @@
 // The buffers of a correction or an update, as a line lends them and as the call leaves them.
+#![tactic(auto)]
+
 ghost use Rattle.correction_buffers.specs.Buffers.{Fit};
 
 use answers::Answer;

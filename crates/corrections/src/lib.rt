@@ -1,4 +1,6 @@
 // The work of the update, for the crates above, which have tested sizes and buffers; not for users.
+#![tactic(auto)]
+
 ghost use Rattle.std.specs.Prelude.{[]};
 ghost use Rattle.std.specs.Float.{binary32};
 ghost use Rattle.answers.specs.declared.Answer.TheVariants.{Done};

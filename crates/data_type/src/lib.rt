@@ -1,4 +1,6 @@
 // Numbers: the reciprocal and the square root of an f32.
+#![tactic(auto)]
+
 ghost use Rattle.std.specs.Prelude.{◌≡◌};
 ghost use Rattle.std.specs.Float.{binary32};
 ghost use Rattle.numbers.specs.Reciprocal.{recip_of};

@@ -1,4 +1,6 @@
 // The feeder's filter: two states, the yarn's tension and how far it drifts in a step.
+#![tactic(auto)]
+
 ghost use Rattle.std.specs.Prelude.{◌≡◌};
 ghost use Rattle.feeder.specs.Feeder.{at_start, tension_of, forecast, Took};
 

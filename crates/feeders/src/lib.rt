@@ -3,6 +3,8 @@
 //
 // Both functions are thin loops: the prover's own walk does not cover a slice of structs, so they are
 // proved by hand, and all that they decide is by value, in `rows`.
+#![tactic(auto)]
+
 ghost use Rattle.rows.specs.Rows.{PredictedRow, CorrectedRow};
 
 use answers::Answer;

@@ -1,5 +1,7 @@
 // Whether numbers are finite, neither a NaN nor an infinity, for the crates above, which have tested
 // sizes and buffers; not for users. Sums and differences are tested before anything is stored.
+#![tactic(auto)]
+
 ghost use Rattle.std.specs.Prelude.{◌≡◌, ◌&&◌, ◌≤◌, length, get_or};
 ghost use Rattle.std.specs.Float.{binary32, nan};
 ghost use Rattle.std.specs.Float.Ieee.{add, sub};

@@ -1,6 +1,8 @@
 // The first pass of the inverse, in the lower triangle: the cell (i, j) holds what the definition has at
 // (j, i), so that four neighbouring sums lie side by side. For the crates above, which have tested size
 // and buffers; not for users.
+#![tactic(auto)]
+
 ghost use Rattle.std.specs.Prelude.{◌≡◌, ◌+◌, ◌*◌, ◌<◌, ◌≤◌, length};
 ghost use Rattle.std.specs.Float.{binary32};
 ghost use Rattle.grids.specs.Grid.{run, grid, cell};

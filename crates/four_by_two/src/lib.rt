@@ -2,6 +2,8 @@
 // tested sizes and buffers; not for users. Every operand is read first, and what follows works on values;
 // x and P are stored last, where both pivots are taken and every number of both is finite. Each sum has
 // the start and the order of its definition.
+#![tactic(auto)]
+
 ghost use Rattle.std.specs.Prelude.{◌≡◌, [], ◌≤◌, length};
 ghost use Rattle.std.specs.Float.{binary32};
 ghost use Rattle.answers.specs.declared.Answer.TheVariants.{Done};

@@ -1,6 +1,8 @@
 // The correction of four states by two observations past its pivots: what the stages give, stored, for
 // the crate above, which has tested sizes and buffers; not for users. x and P are stored last, where every
 // number of both is finite.
+#![tactic(auto)]
+
 ghost use Rattle.std.specs.Prelude.{[], ◌≤◌, length};
 ghost use Rattle.filters.specs.Lent.{buffers};
 ghost use Rattle.four_renewals.specs.Finished.{Finished};

@@ -1,5 +1,7 @@
 // The stages of the correction of four states by two observations, by value, for the crate above, which
 // has tested sizes and buffers; not for users.
+#![tactic(auto)]
+
 ghost use Rattle.std.specs.Prelude.{◌≡◌, ◌&&◌, ◌≤◌, length};
 ghost use Rattle.numbers.specs.Finite.{all_finite};
 ghost use Rattle.four_values.specs.Values.{in_four};

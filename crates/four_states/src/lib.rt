@@ -2,6 +2,8 @@
 // buffers; not for users. Every operand is read first and every result stored last; each sum has the
 // start and the order of its definition. A function that is called once, however large, is compiled into
 // its caller, and so is a small one: each product has a function of its own, in halves of rows.
+#![tactic(auto)]
+
 ghost use Rattle.std.specs.Prelude.{◌≡◌, ◌≤◌, length};
 ghost use Rattle.std.specs.Float.{binary32};
 ghost use Rattle.grids.specs.Grid.{run, grid};

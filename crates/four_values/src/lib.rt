@@ -1,6 +1,8 @@
 // Matrices of two and four rows and columns by value, in fours: their products row by row, and their
 // cells, for the crates above, which have tested sizes and buffers; not for users. Each sum has the start
 // and the order of its definition.
+#![tactic(auto)]
+
 ghost use Rattle.std.specs.Prelude.{◌≡◌, ◌≤◌, length};
 ghost use Rattle.grids.specs.Grid.{cell, grid};
 ghost use Rattle.four_values.specs.Values.{large, in_wide, in_large};

@@ -1,4 +1,6 @@
 // A number in whole hundredths, for a table.
+#![tactic(auto)]
+
 ghost use Rattle.hundredths.specs.Hundredths.{InHundredths};
 
 // What a number is in hundredths.

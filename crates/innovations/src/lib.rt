@@ -1,6 +1,8 @@
 // The innovation of an observation, and the update from an innovation that is given, for any caller.
 //
 // Each function asks its gate, and has its work done below where the gate says done.
+#![tactic(auto)]
+
 ghost use Rattle.std.specs.Prelude.{[]};
 ghost use Rattle.std.specs.Float.{binary32};
 ghost use Rattle.filters.specs.Lent.{buffers};

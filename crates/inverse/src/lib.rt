@@ -1,4 +1,6 @@
 // The inverse of a matrix from its lower Cholesky factor.
+#![tactic(auto)]
+
 pub mod cores;
 mod gates;
 mod invert;

@@ -1,4 +1,6 @@
 // The functions that a line of a list can call: what each is called, and what it takes.
+#![tactic(auto)]
+
 mod names;
 mod shapes;
 

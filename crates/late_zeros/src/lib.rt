@@ -1,5 +1,7 @@
 // Sums of products that start at +0, with the start added where nothing waits for it, for the crates
 // above; not for users. The start changes nothing but a −0, so that the last start does the work of all.
+#![tactic(auto)]
+
 ghost use Rattle.std.specs.Prelude.{◌≡◌};
 ghost use Rattle.std.specs.Float.{binary32};
 ghost use Rattle.std.specs.Float.Ieee.{add, mul};

@@ -1,5 +1,7 @@
 // Reading lists of bit patterns: hexadecimal numbers of eight digits, words, where a line ends, and
 // the floats that patterns stand for.
+#![tactic(auto)]
+
 mod pattern;
 mod words;
 

@@ -2,6 +2,8 @@
 //
 // What the update and the correction share is in pieces of two and three tests: the compiler takes so
 // small a function into both of its callers, and no answer goes through memory.
+#![tactic(auto)]
+
 ghost use Rattle.std.specs.Prelude.{◌≡◌, true, ◌&&◌, [], ◌∷◌, ◌++◌, ◌+◌, ◌*◌, ◌≤◌, eqb, leb};
 ghost use Rattle.answers.specs.Answers.{is_done, first_of};
 ghost use Rattle.answers.specs.Tests.{lent, buffer_test, buffer_tests, after_tests, call_answer};

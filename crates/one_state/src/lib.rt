@@ -1,5 +1,7 @@
 // The one-state filter: the tension of one yarn, by value. A total starts at +0, as the general
 // filter's does, so −0 becomes +0.
+#![tactic(auto)]
+
 ghost use Rattle.std.specs.Prelude.{◌≡◌};
 ghost use Rattle.one_state.specs.OneState.{fresh, blinded, predicted, corrected};
 

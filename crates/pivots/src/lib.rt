@@ -1,4 +1,6 @@
 // The pivot step: one number, taken or refused.
+#![tactic(auto)]
+
 ghost use Rattle.std.specs.Prelude.{◌≡◌};
 ghost use Rattle.std.specs.Float.{binary32};
 ghost use Rattle.factors.specs.Pivots.{pivot_taken};

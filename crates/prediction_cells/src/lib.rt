@@ -1,5 +1,7 @@
 // The work of both predictions in one call, for the crate above, which has tested sizes and buffers; not
 // for users: one, two and four states in straight lines, the others by the products.
+#![tactic(auto)]
+
 ghost use Rattle.std.specs.Prelude.{◌≡◌, ◌*◌, ◌≤◌, length};
 ghost use Rattle.std.specs.Float.{binary32};
 ghost use Rattle.grids.specs.Grid.{run, grid};

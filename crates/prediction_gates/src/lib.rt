@@ -1,4 +1,6 @@
 // Refusals 1 and 2 of the predictions, buffers in the order of R5; for the crate above.
+#![tactic(auto)]
+
 ghost use Rattle.std.specs.Prelude.{◌≡◌};
 ghost use Rattle.filters.specs.Predicted.{predict_x_answer, predict_p_answer, predict_answer};
 

@@ -1,5 +1,7 @@
 // The work of the predictions, for the crates above, which have tested sizes and buffers; not for
 // users.
+#![tactic(auto)]
+
 ghost use Rattle.std.specs.Prelude.{◌≡◌, ◌*◌, ◌≤◌, length};
 ghost use Rattle.std.specs.Float.{binary32};
 ghost use Rattle.grids.specs.Grid.{cell, run, grid};

@@ -1,4 +1,6 @@
 // Calls of the products.
+#![tactic(auto)]
+
 use answers::Answer;
 use jobs::Job;
 use lists::Head;

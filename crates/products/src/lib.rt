@@ -1,6 +1,8 @@
 // Products of matrices that lent buffers hold, row-major.
 //
 // Each public function asks its gate, and has its family's work done where the gate says done.
+#![tactic(auto)]
+
 mod gates;
 mod plain;
 mod rowvector;

@@ -1,4 +1,6 @@
 // Calls that read a matrix: one cell, a row, a column or the whole.
+#![tactic(auto)]
+
 use answers::Answer;
 use jobs::Job;
 use lists::Head;

@@ -1,5 +1,7 @@
 // The work of a correction by a reading, for the crate above, which has tested sizes and buffers; not for
 // users: (2, 1) and (4, 2) in straight lines, the others step by step.
+#![tactic(auto)]
+
 ghost use Rattle.std.specs.Prelude.{◌≡◌, [], ◌≤◌, length};
 ghost use Rattle.std.specs.Float.{binary32};
 ghost use Rattle.answers.specs.declared.Answer.TheVariants.{Done};

@@ -1,5 +1,7 @@
 // The work of the update within a correction by a reading, for the crate above, which has tested sizes and
 // buffers; not for users: three observations have a gain of their own.
+#![tactic(auto)]
+
 ghost use Rattle.std.specs.Prelude.{[]};
 ghost use Rattle.std.specs.Float.{binary32};
 ghost use Rattle.answers.specs.declared.Answer.TheVariants.{Done};

@@ -1,6 +1,8 @@
 // The correction by a reading, over lent buffers of n states and m observations: the innovation and
 // the update from it, behind one door. `observations` hands it on to users. One state and one observation
 // are asked first, all their buffers at once.
+#![tactic(auto)]
+
 ghost use Rattle.std.specs.Float.{binary32};
 ghost use Rattle.filters.specs.Lent.{buffers};
 ghost use Rattle.filters.specs.Corrected.{Corrected};

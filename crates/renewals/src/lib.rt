@@ -1,5 +1,7 @@
 // The last step of a correction, for the crates above, which have tested sizes and buffers; not for
 // users: x and P anew, where they are finite.
+#![tactic(auto)]
+
 ghost use Rattle.std.specs.Prelude.{◌≡◌, ◌*◌, ◌≤◌, length};
 ghost use Rattle.std.specs.Float.{binary32};
 ghost use Rattle.std.specs.Float.Ieee.{sub};

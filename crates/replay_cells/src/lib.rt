@@ -1,4 +1,6 @@
 // A line of a function on cells, of the decomposition or of the inverse: at most two buffers.
+#![tactic(auto)]
+
 use answers::Answer;
 use jobs::Job;
 use lists::{Head, Seen, Shape, head_at, lend, seen};

@@ -1,4 +1,6 @@
 // A line of the correction, with its twelve buffers, or of the update from a given y, which takes no z.
+#![tactic(auto)]
+
 ghost use Rattle.correction_buffers.specs.Buffers.{Fit};
 
 use correction_buffers::{Buffers, Done, compared, read};

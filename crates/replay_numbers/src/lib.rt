@@ -1,4 +1,6 @@
 // A line of the reciprocal or of the root.
+#![tactic(auto)]
+
 ghost use Rattle.std.specs.Prelude.{◌≡◌};
 ghost use Rattle.std.specs.Float.{binary32};
 ghost use Rattle.numbers.specs.Reciprocal.{recip_of};

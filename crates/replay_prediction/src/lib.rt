@@ -1,4 +1,6 @@
 // A line of the prediction, with its six buffers.
+#![tactic(auto)]
+
 use lists::{Seen, Shape, head_at, lend, seen};
 
 // The call of a line, compared.

@@ -1,4 +1,6 @@
 // A line of a product, a sum, the innovation or half a prediction: at most four buffers.
+#![tactic(auto)]
+
 use jobs::Job;
 use lists::{Seen, Shape, head_at, lend, seen};
 

@@ -1,5 +1,7 @@
 // A line of the one-state filter: the record of one yarn, seven words behind their count, six numbers
 // and how many corrections were refused in a row, and for a correction the reading.
+#![tactic(auto)]
+
 ghost use Rattle.std.specs.Prelude.{◌≡◌};
 ghost use Rattle.replay_yarn.specs.Yarn.{seven_at, blind_at, lent_at, yarn_met, predict_met, correct_met};
 

@@ -1,5 +1,7 @@
 // The residual's covariance in a correction and its lower factor, for the crate above, which has tested
 // sizes and buffers; not for users.
+#![tactic(auto)]
+
 ghost use Rattle.std.specs.Prelude.{◌≡◌, ℕ, ◌*◌, ◌≤◌, length, get_or};
 ghost use Rattle.std.specs.Float.{binary32, nan};
 ghost use Rattle.std.specs.Float.Ieee.{add};

@@ -1,6 +1,8 @@
 // a·b of thirteen to sixteen rows and columns on the diagonal and above it, for the crate above, which has
 // tested sizes and buffers; not for users. The left half of the lower rows is not formed. Two rows run side
 // by side, each total from +0 on and in the order of its definition.
+#![tactic(auto)]
+
 ghost use Rattle.std.specs.Prelude.{◌≡◌, ℕ, ◌+◌, ◌-◌, ◌*◌, ◌≤◌, length, get_or};
 ghost use Rattle.std.specs.Float.{binary32, nan};
 ghost use Rattle.side_by_side.specs.Chunks.{Chunk};

@@ -1,4 +1,6 @@
 // The test of a proposed root. A core: the `requires` keeps the squares within a word.
+#![tactic(auto)]
+
 ghost use Rattle.std.specs.Prelude.{◌≡◌, ◌<◌};
 ghost use Rattle.numbers.specs.Proposed.{accepts};
 

@@ -1,6 +1,8 @@
 // The whole part of a root, a digit at a time, and with it an entry of the table of roots.
 //
 // A core: `requires` say what a caller has to see to. The table itself is `lower_roots` and `upper_roots`.
+#![tactic(auto)]
+
 ghost use Rattle.std.specs.Prelude.{◌+◌, ◌*◌, ◌≤◌, ◌<◌};
 ghost use Rattle.numbers.specs.Proposed.{IsEntry, entry_in};
 

@@ -1,4 +1,6 @@
 // A list of square roots: what a line holds, the comparison of a root, and the counts.
+#![tactic(auto)]
+
 mod line;
 mod pattern;
 mod tally;

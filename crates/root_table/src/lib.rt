@@ -2,6 +2,8 @@
 //
 // A core: `requires` say what a caller has to see to. Nothing is promised of a proposal but its size;
 // `root_check` tests it.
+#![tactic(auto)]
+
 ghost use Rattle.std.specs.Prelude.{◌<◌};
 ghost use Rattle.numbers.specs.Proposed.{IsEntry, entry_in};
 

@@ -1,6 +1,8 @@
 // A row of a·b in chunks of four columns, one to four of them, for the crates above, which have tested
 // sizes and buffers; not for users. All totals of a row run side by side, each from +0 on and in the
 // order of its definition. The last chunk stands where the caller says: at the right edge.
+#![tactic(auto)]
+
 ghost use Rattle.std.specs.Prelude.{◌≡◌, ◌+◌, ◌*◌, ◌≤◌, length};
 ghost use Rattle.std.specs.Float.{binary32};
 ghost use Rattle.side_by_side.specs.Chunks.{Chunk};

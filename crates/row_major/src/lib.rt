@@ -1,4 +1,6 @@
 // Cells of a matrix that a lent buffer holds, row-major: entry (r, c) is at r·cols + c.
+#![tactic(auto)]
+
 mod cell;
 mod copy;
 mod fill;

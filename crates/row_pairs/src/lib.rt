@@ -1,6 +1,8 @@
 // a·b for b of thirteen to sixteen columns, two rows at a time, for the crate above, which has tested
 // sizes and buffers; not for users. Eight chunks of four columns run side by side, each total from +0 on
 // and in the order of its definition, and each number of b is read once for both rows.
+#![tactic(auto)]
+
 ghost use Rattle.std.specs.Prelude.{◌≡◌, ◌+◌, ◌*◌, ◌≤◌, length};
 ghost use Rattle.std.specs.Float.{binary32};
 ghost use Rattle.side_by_side.specs.Chunks.{Chunk};

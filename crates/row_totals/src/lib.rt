@@ -1,6 +1,8 @@
 // Entries of a·bᵀ, a and b with rows of inner numbers, for the crates above, which have tested sizes
 // and buffers; not for users. Every sum has the start and the order of its definition; four run side
 // by side.
+#![tactic(auto)]
+
 ghost use Rattle.std.specs.Prelude.{◌≡◌, ◌+◌, ◌*◌, ◌≤◌, length};
 ghost use Rattle.std.specs.Float.{binary32};
 ghost use Rattle.entries.specs.Entries.{product_t};

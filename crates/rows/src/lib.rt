@@ -1,6 +1,8 @@
 // What the calls over a row of feeders decide, by value (R33): which rows are taken, what becomes of one
 // feeder, and what the call says. For `feeders`, which has the loops over a lent row; of a user's
 // concern is `Corrections`.
+#![tactic(auto)]
+
 ghost use Rattle.std.specs.Prelude.{◌≡◌, ◌+◌, ◌^◌, ◌<◌, ◌≤◌, length};
 ghost use Rattle.answers.specs.Answers.{settled};
 ghost use Rattle.one_state.specs.OneState.{predicted};

@@ -1,6 +1,8 @@
 // The second pass of the inverse, for `inverse` above, which has tested size and buffers; not for users.
 // It begins from the lower triangle. Columns that are done are kept as rows too, so that what the sums of
 // neighbouring cells read lies side by side, and four of them run together.
+#![tactic(auto)]
+
 ghost use Rattle.std.specs.Prelude.{◌≡◌, ◌*◌, ◌≤◌, length};
 ghost use Rattle.std.specs.Float.{binary32};
 ghost use Rattle.grids.specs.Grid.{grid, cell};

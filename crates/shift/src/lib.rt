@@ -1,4 +1,6 @@
 // A feeder's shift: its readings, its steps, and the count of what became of the readings.
+#![tactic(auto)]
+
 mod readings;
 mod step;
 mod tally;

@@ -1,6 +1,8 @@
 // Predictions of one and of two states in straight lines, for the crate above, which has tested sizes
 // and buffers; not for users. Every operand is read first and every result stored last. Each sum has the
 // order of its definition, and what is stored has its start.
+#![tactic(auto)]
+
 ghost use Rattle.std.specs.Prelude.{◌≡◌, ◌≤◌, length};
 ghost use Rattle.std.specs.Float.{binary32};
 ghost use Rattle.grids.specs.Grid.{run, grid};

@@ -1,4 +1,6 @@
 // Calls of the sums, of the innovation and of the halves of the prediction.
+#![tactic(auto)]
+
 use answers::Answer;
 use jobs::Job;
 use lists::Head;

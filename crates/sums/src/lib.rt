@@ -1,4 +1,6 @@
 // Sums and differences of matrices that lent buffers hold, entry by entry.
+#![tactic(auto)]
+
 ghost use Rattle.std.specs.Float.{binary32};
 ghost use Rattle.std.specs.Float.Ieee.{add, sub};
 ghost use Rattle.grids.specs.Sums.{Combined, InPlace};

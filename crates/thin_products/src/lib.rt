@@ -3,6 +3,8 @@
 // first ones are stored.
 // Number (k, j) of the right operand is b's at k·up + j·over: up and over are its columns and 1 where b
 // holds it, and 1 and its rows where b holds its transpose.
+#![tactic(auto)]
+
 ghost use Rattle.std.specs.Prelude.{◌≡◌, ℕ, ◌+◌, ◌*◌, ◌≤◌, ◌<◌, length, get_or};
 ghost use Rattle.std.specs.Float.{binary32, nan};
 ghost use Rattle.numbers.specs.Sums.{plus0, sum_from, products};

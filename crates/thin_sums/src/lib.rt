@@ -1,5 +1,7 @@
 // a·bᵀ + q of one, two or three columns, for the crates above, which have tested sizes and buffers; not
 // for users. A row's numbers of q are added while its totals are at hand, and then stored.
+#![tactic(auto)]
+
 ghost use Rattle.std.specs.Prelude.{◌≡◌, ◌+◌, ◌*◌, ◌≤◌, length, get_or};
 ghost use Rattle.std.specs.Float.{binary32, nan};
 ghost use Rattle.std.specs.Float.Ieee.{add};

@@ -2,6 +2,8 @@
 // Hᵀ is written once, in rows of four numbers of which the last is +0: so S and P·Hᵀ are products of four
 // columns, whose totals run side by side. S goes from there to its factor and its inverse as numbers; P·Hᵀ
 // waits for neither.
+#![tactic(auto)]
+
 ghost use Rattle.std.specs.Prelude.{◌≡◌, cond, ◌*◌, ◌≤◌, ◌<◌, ltb, length};
 ghost use Rattle.std.specs.Float.{binary32};
 ghost use Rattle.std.specs.Float.Ieee.{add};

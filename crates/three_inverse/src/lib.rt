@@ -1,5 +1,7 @@
 // The inverse of three by three from its lower factor, in straight lines, for the crate above, which has
 // tested size and buffers; not for users. Each sum has the start and the order of its definition.
+#![tactic(auto)]
+
 ghost use Rattle.std.specs.Prelude.{◌≡◌, ◌≤◌, length};
 ghost use Rattle.std.specs.Float.{binary32};
 ghost use Rattle.grids.specs.Grid.{grid, cell};

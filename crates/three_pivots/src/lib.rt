@@ -1,5 +1,7 @@
 // The lower factor of three by three, in straight lines, for the crate above, which has tested size and
 // buffer; not for users. Each difference has the start and the order of its definition.
+#![tactic(auto)]
+
 ghost use Rattle.std.specs.Prelude.{◌≡◌, ◌≤◌, length};
 ghost use Rattle.std.specs.Float.{binary32};
 ghost use Rattle.grids.specs.Grid.{grid, cell};

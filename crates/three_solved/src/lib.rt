@@ -1,6 +1,8 @@
 // The lower factor and the inverse of three by three, as numbers and at once, for the crates above, which
 // have tested sizes and buffers; not for users. Each difference and each sum has the start and the order of
 // its definition; each root's reciprocal is formed once, for both.
+#![tactic(auto)]
+
 ghost use Rattle.std.specs.Prelude.{◌≡◌, ◌≤◌, length};
 ghost use Rattle.std.specs.Float.{binary32};
 ghost use Rattle.grids.specs.Grid.{grid};

@@ -1,5 +1,7 @@
 // The work of the update from three observations, for the crate above, which has tested sizes and buffers;
 // not for users.
+#![tactic(auto)]
+
 ghost use Rattle.std.specs.Prelude.{[]};
 ghost use Rattle.std.specs.Float.{binary32};
 ghost use Rattle.answers.specs.declared.Answer.TheVariants.{Done};

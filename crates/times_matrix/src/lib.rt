@@ -1,6 +1,8 @@
 // a·b, for the crates above, which have tested sizes and buffers; not for users. Every sum has the start
 // and the order of its definition; those of a row run side by side, in chunks of four columns, so that
 // none waits for another.
+#![tactic(auto)]
+
 ghost use Rattle.std.specs.Prelude.{◌≡◌, ◌*◌, ◌≤◌, length};
 ghost use Rattle.std.specs.Float.{binary32};
 ghost use Rattle.grids.specs.Grid.{grid};

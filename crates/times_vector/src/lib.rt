@@ -1,5 +1,7 @@
 // a·x, a of rows by inner and x of inner numbers, for the crates above, which have tested sizes and
 // buffers; not for users. It is stored, or added to c. Each sum starts with its first product.
+#![tactic(auto)]
+
 ghost use Rattle.std.specs.Prelude.{◌≡◌, ◌+◌, ◌*◌, ◌≤◌, length, get_or};
 ghost use Rattle.std.specs.Float.{binary32, nan};
 ghost use Rattle.std.specs.Float.Ieee.{add};

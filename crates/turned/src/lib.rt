@@ -1,5 +1,7 @@
 // a·bᵀ by way of bᵀ, which is written into an array of its own first: then b's numbers are read side
 // by side. For the crates above, which have tested sizes and buffers; not for users.
+#![tactic(auto)]
+
 ghost use Rattle.std.specs.Prelude.{◌≡◌, ◌+◌, ◌*◌, ◌≤◌, ◌<◌, length};
 ghost use Rattle.std.specs.Float.{binary32};
 ghost use Rattle.grids.specs.Grid.{cell, run, grid};

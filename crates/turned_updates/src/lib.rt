@@ -1,5 +1,7 @@
 // The steps of the update one after the other, with room lent for Hᵀ; for the crate above, which has tested
 // sizes and buffers; not for users.
+#![tactic(auto)]
+
 ghost use Rattle.std.specs.Prelude.{[], ◌*◌, ◌≤◌, length};
 ghost use Rattle.std.specs.Float.{binary32};
 ghost use Rattle.answers.specs.declared.Answer.TheVariants.{Done};

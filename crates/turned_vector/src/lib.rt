@@ -1,5 +1,7 @@
 // a·x by way of aᵀ, whose numbers are read side by side, for thirteen to sixteen rows of a; for the crate
 // above, which has tested sizes and buffers; not for users. Each sum starts with its first product.
+#![tactic(auto)]
+
 ghost use Rattle.std.specs.Prelude.{◌≡◌, ◌+◌, ◌*◌, ◌≤◌, length};
 ghost use Rattle.std.specs.Float.{binary32};
 ghost use Rattle.side_by_side.specs.Chunks.{Chunk};

@@ -2,6 +2,8 @@
 // tested sizes and buffers; not for users. Every operand is read first, and what follows works on values;
 // x and P are stored last, where the pivot is taken and every number of both is finite. Each sum has the
 // order of its definition, and what is stored has its start.
+#![tactic(auto)]
+
 ghost use Rattle.std.specs.Prelude.{◌≡◌, [], ◌≤◌, length};
 ghost use Rattle.std.specs.Float.{binary32};
 ghost use Rattle.answers.specs.declared.Answer.TheVariants.{Done};

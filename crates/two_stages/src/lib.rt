@@ -1,6 +1,8 @@
 // The correction of two states by one observation before and after its pivot, by value, for the crate
 // above, which has tested sizes and buffers; not for users. H·P and P·Hᵀ go from one to the other without
 // the start of their sums, which nothing has to wait for.
+#![tactic(auto)]
+
 ghost use Rattle.std.specs.Prelude.{◌≡◌, ◌&&◌, ◌≤◌, length};
 ghost use Rattle.std.specs.Float.Ieee.Scale.{finite};
 ghost use Rattle.two_stages.specs.Stages.{lent_in, seen, renewal};

@@ -1,5 +1,7 @@
 // The steps of a correction, for the crates above, which have tested sizes and buffers; not for users:
 // the innovation, the residual's covariance, the gain. The last one is that of `renewals`.
+#![tactic(auto)]
+
 ghost use Rattle.std.specs.Prelude.{◌≡◌, ◌*◌, ◌≤◌, length};
 ghost use Rattle.std.specs.Float.{binary32};
 ghost use Rattle.std.specs.Float.Ieee.{add};

@@ -3,6 +3,8 @@
 // Each number begins with the entry, four hexadecimal digits; what stands behind it improves an estimate
 // that starts there (`root_table::proposed`). A `match` whose arms are constants is compiled to a table in
 // the program's read-only data; a `const` array would be built anew on the stack at each use.
+#![tactic(auto)]
+
 ghost use Rattle.std.specs.Prelude.{◌+◌, ◌<◌};
 ghost use Rattle.numbers.specs.Proposed.{IsEntry, entry_in};
 

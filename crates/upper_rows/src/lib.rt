@@ -2,6 +2,8 @@
 // not for users. Row i of the triangle becomes column i of the factor, so that what neighbours are less is
 // read side by side, and four of them run together. A refused pivot leaves cells of which nothing is said:
 // the caller forms them anew.
+#![tactic(auto)]
+
 ghost use Rattle.std.specs.Prelude.{◌≡◌, cond, ℕ, ◌+◌, ◌*◌, ◌≤◌, ◌<◌, length, get_or};
 ghost use Rattle.std.specs.Float.{binary32, nan};
 ghost use Rattle.std.specs.Float.Ieee.{sub, mul};

@@ -1,4 +1,6 @@
 // What the wire from a feeder brings, and what becomes of it.
+#![tactic(auto)]
+
 use answers::Answer;
 
 // What the wire brings in a step.
