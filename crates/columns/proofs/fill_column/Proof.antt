@@ -10,83 +10,83 @@ use Rattle.columns.proofs.Stepping.{told}
 use Rattle.columns.proofs.fill_column.Statement.{statement}
 use Rattle.columns.proofs.fill_column.Tie as tie
 
-rest-at-requires : tie.Need-rest-at-requires
-rest-at-requires c κs = search rules
+rest_at-sum-requires : tie.Need-rest_at-sum-requires
+rest_at-sum-requires c κs = search rules
 
-pivot-of-requires : tie.Need-pivot-of-requires
-pivot-of-requires c κs = search rules
+pivot_of-requires : tie.Need-pivot_of-requires
+pivot_of-requires c κs = search rules
 
-enum-known-r : tie.Need-enum-known-r
-enum-known-r c = search rules
+enum_known-r : tie.Need-enum_known-r
+enum_known-r c = search rules
 
-mul-t : tie.Need-overflow-mul-t
-mul-t c = search rules
+overflow_mul-t : tie.Need-overflow_mul-t
+overflow_mul-t c = search rules
 
-add-t : tie.Need-overflow-add-t
-add-t c = search rules
+overflow_add-t : tie.Need-overflow_add-t
+overflow_add-t c = search rules
 
-mul-t-2 : tie.Need-overflow-mul-t-2
-mul-t-2 c = search rules
+offset_bounds-t-i : tie.Need-offset_bounds-t-i
+offset_bounds-t-i c = search rules
 
-slice-write-t : tie.Need-slice-write-t
-slice-write-t c = search rules
+bounds-t-i : tie.Need-bounds-t-i
+bounds-t-i c = search rules
 
-fill-below-requires : tie.Need-fill-below-requires
-fill-below-requires c κs = search rules
+fill_below-requires : tie.Need-fill_below-requires
+fill_below-requires c κs = search rules
 
-enum-known-s : tie.Need-enum-known-s
-enum-known-s c = search rules
+enum_known-s : tie.Need-enum_known-s
+enum_known-s c = search rules
 
-mul-t-3 : tie.Need-overflow-mul-t-3
-mul-t-3 c = search rules
+overflow_mul-t-in-Refused : tie.Need-overflow_mul-t-in-Refused
+overflow_mul-t-in-Refused c = search rules
 
-add-t-2 : tie.Need-overflow-add-t-2
-add-t-2 c = search rules
+overflow_add-t-in-Refused : tie.Need-overflow_add-t-in-Refused
+overflow_add-t-in-Refused c = search rules
 
-mul-t-4 : tie.Need-overflow-mul-t-4
-mul-t-4 c = search rules
+offset_bounds-t-i-in-Refused : tie.Need-offset_bounds-t-i-in-Refused
+offset_bounds-t-i-in-Refused c = search rules
 
-slice-write-t-2 : tie.Need-slice-write-t-2
-slice-write-t-2 c = search rules
+bounds-t-i-in-Refused : tie.Need-bounds-t-i-in-Refused
+bounds-t-i-in-Refused c = search rules
 
-same_length : tie.Need-same-length
-same_length c = let m = c.before.before.before.before.before.before.before.before.before.before.before.args in omega (arith, length-set m.t.now (m.i * m.n + m.i) c.before.before.before.before.before.r.given.0.0)
+shape_of-t-in-Accepted : tie.Need-shape_of-t-in-Accepted
+shape_of-t-in-Accepted c = let m = c.args in omega (arith, length-set m.t.now (m.i * m.n + m.i) c.in-Accepted.r)
 
-returns : tie.Need-returns
-returns c =
-    let m = c.before.before.before.before.before.before.before.before.before.before.before.args in (
-      told binary32 _ _ _ _ c.before.before.before.before.before.r.given.1 c.before.before.before.before.before.before.before.pivot-of.ensures c.before.before.before.before.before.before.before.before.rest_at.ensures,
-      below_after binary32 m.n m.t.now m.i _ (omega arith) (omega arith) _ _ c.before.before.fill-below.ensures,
+returns-in-Accepted : tie.Need-returns-in-Accepted
+returns-in-Accepted c =
+    let m = c.args in (
+      told binary32 _ _ _ _ c.in-Accepted.is c.pivot_of.ensures c.rest_at-sum.ensures,
+      below_after binary32 m.n m.t.now m.i _ (omega arith) (omega arith) _ _ c.fill_below.ensures,
     )
 
-same-length-2 : tie.Need-same-length-2
-same-length-2 c = search rules
+shape_of-t-in-Refused : tie.Need-shape_of-t-in-Refused
+shape_of-t-in-Refused c = search rules
 
-returns-2 : tie.Need-returns-2
-returns-2 c =
-    let m = c.before.before.before.before.before.before.before.args in (
-      told binary32 _ _ _ _ c.before.s.given.1 c.before.before.before.pivot-of.ensures c.before.before.before.before.rest_at.ensures,
+returns-in-Refused : tie.Need-returns-in-Refused
+returns-in-Refused c =
+    let m = c.args in (
+      told binary32 _ _ _ _ c.in-Refused.is c.pivot_of.ensures c.rest_at-sum.ensures,
       set-cell m.n m.t.now m.i m.i _ (omega arith) (omega arith) (omega arith),
     )
 
-pub fill-column-spec : {M : Type 1} → statement M
-fill-column-spec =
+pub fill_column_spec : {M : Type 1} → statement M
+fill_column_spec =
     tie.close
     (tie.spec
-    rest-at-requires
-    pivot-of-requires
-    enum-known-r
-    mul-t
-    add-t
-    mul-t-2
-    slice-write-t
-    fill-below-requires
-    enum-known-s
-    mul-t-3
-    add-t-2
-    mul-t-4
-    slice-write-t-2
-    same_length
-    returns
-    same-length-2
-    returns-2)
+    rest_at-sum-requires
+    pivot_of-requires
+    enum_known-r
+    overflow_mul-t
+    overflow_add-t
+    offset_bounds-t-i
+    bounds-t-i
+    fill_below-requires
+    enum_known-s
+    overflow_mul-t-in-Refused
+    overflow_add-t-in-Refused
+    offset_bounds-t-i-in-Refused
+    bounds-t-i-in-Refused
+    shape_of-t-in-Accepted
+    returns-in-Accepted
+    shape_of-t-in-Refused
+    returns-in-Refused)

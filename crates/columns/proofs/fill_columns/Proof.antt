@@ -18,81 +18,81 @@ use Rattle.factors.proofs.Sweep.{swept_refused, swept-taken}
 use Rattle.columns.proofs.fill_columns.Statement.{statement}
 use Rattle.columns.proofs.fill_columns.Tie as tie
 
-abbrev invariant-loop : tie.invariant-loop
+abbrev invariant-loop : tie.invariant-loop-i
 invariant-loop n t₀ d₀ i₀ t d i = (i ≤ n) × (length t ≡ length t₀) × (d ≡ last_recip binary32 (cell n t₀) i) × (t ≡ grid n n (factor binary32 (cell n t₀) i) t₀) × ((k : ℕ) → k < i → pivot_taken (pivot_at binary32 (cell n t₀) k) ≡ true)
 
-abbrev decreases-loop : tie.decreases-loop
+abbrev decreases-loop : tie.decreases-loop-i
 decreases-loop n t₀ d₀ i₀ t d i = n - i
 
-loop-holds : tie.Need-loop-init invariant-loop decreases-loop
+loop-i-init : tie.Need-loop-i-init invariant-loop decreases-loop
 unfolding factor last_recip of_bits
-loop-holds c = let m = c.before.args in (omega arith, refl, refl, sym (grid_self m.n m.n m.t.now), λ k h. absurd (omega arith))
+loop-i-init c = let m = c.args in (omega arith, refl, refl, sym (grid_self m.n m.n m.t.now), λ k h. absurd (omega arith))
 
-fill-column-requires : tie.Need-fill-column-requires invariant-loop decreases-loop
-fill-column-requires c κs = let m = c.before.before.before.before.args in omega (arith, row_in m.n m.n c.before.before.loop.i (omega arith))
+fill_column-requires : tie.Need-fill_column-requires invariant-loop decreases-loop
+fill_column-requires c κs = let m = c.args in omega (arith, row_in m.n m.n c.loop-i.i (omega arith))
 
-enum-known-q : tie.Need-enum-known-q invariant-loop decreases-loop
-enum-known-q c = search rules
+enum_known-q : tie.Need-enum_known-q invariant-loop decreases-loop
+enum_known-q c = search rules
 
-enum_told : tie.Need-enum-told invariant-loop decreases-loop
-enum_told c = search rules
+enum_told-1 : tie.Need-enum_told-1 invariant-loop decreases-loop
+enum_told-1 c = search rules
 
-same_length : tie.Need-same-length invariant-loop decreases-loop
-same_length c = omega arith
+shape_of-t-in_default : tie.Need-shape_of-t-in_default invariant-loop decreases-loop
+shape_of-t-in_default c = omega arith
 
-returns : tie.Need-returns invariant-loop decreases-loop
-returns c =
-    let m = c.before.before.before.before.before.before.before.before.before.args in
-    let w = c.before.before.before.before.before.before.before.loop in
+returns-in_default : tie.Need-returns-in_default invariant-loop decreases-loop
+returns-in_default c =
+    let m = c.args in
+    let w = c.loop-i in
     let e = cell m.n m.t.now in
-    let g = c.before.before.before.before.fill-column in
-    let z = refused_here binary32 m.n m.t.now w.i (omega arith) (omega arith) w.t w.invariant.3 w.d _ g.result _ g.ensures.0 g.ensures.1 c.enum_told.given.1 w.invariant.2 in
+    let g = c.fill_column in
+    let z = refused_here binary32 m.n m.t.now w.i (omega arith) (omega arith) w.t w.invariant.3 w.d _ g.result _ g.ensures.0 g.ensures.1 c.in_default.is w.invariant.2 in
     let r = first_is (λ i. pivot_taken (pivot_at binary32 e i)) m.n w.i (omega arith) w.invariant.4 z.0 in
     (sym r, z.1 ∙ ap (λ (h : ℕ → ℕ → Float). grid m.n m.n h m.t.now) (sym (swept_refused binary32 m.n e w.i (omega arith) r)))
 
-add-i : tie.Need-overflow-add-i invariant-loop decreases-loop
-add-i c = omega arith
+overflow_add-i : tie.Need-overflow_add-i invariant-loop decreases-loop
+overflow_add-i c = omega arith
 
-loop-less : tie.Need-loop-smaller invariant-loop decreases-loop
-loop-less c = omega arith
+loop-i-smaller : tie.Need-loop-i-smaller invariant-loop decreases-loop
+loop-i-smaller c = omega arith
 
-loop-again : tie.Need-loop-preserved invariant-loop decreases-loop
-loop-again c =
-    let m = c.before.before.before.before.before.before.before.before.before.before.args in
-    let w = c.before.before.before.before.before.before.before.before.loop in
+loop-i-preserved : tie.Need-loop-i-preserved invariant-loop decreases-loop
+loop-i-preserved c =
+    let m = c.args in
+    let w = c.loop-i in
     let e = cell m.n m.t.now in
-    let g = c.before.before.before.before.before.fill-column in
-    let z = taken_more binary32 m.n m.t.now w.i (omega arith) (omega arith) w.t w.invariant.3 w.d _ _ g.result _ g.ensures.0 g.ensures.1 c.before.q.given.1 in
+    let g = c.fill_column in
+    let z = taken_more binary32 m.n m.t.now w.i (omega arith) (omega arith) w.t w.invariant.3 w.d _ _ g.result _ g.ensures.0 g.ensures.1 c.in-Accepted.is in
     (omega arith, omega arith, rw add-one z.1, rw add-one z.2, below_more _ _ w.invariant.4 z.0)
 
-same-length-2 : tie.Need-same-length-2 invariant-loop decreases-loop
-same-length-2 c = c.before.loop.invariant.1
+shape_of-t : tie.Need-shape_of-t invariant-loop decreases-loop
+shape_of-t c = c.loop-i.invariant.1
 
-returns-2 : tie.Need-returns-2 invariant-loop decreases-loop
-returns-2 c =
-    let m = c.before.before.before.args in
+returns : tie.Need-returns invariant-loop decreases-loop
+returns c =
+    let m = c.args in
     let e = cell m.n m.t.now in
-    let w = c.before.loop in
+    let w = c.loop-i in
     let k : w.i ≡ m.n = omega arith in
     let r = first-none (λ i. pivot_taken (pivot_at binary32 e i)) m.n (rw k at w.invariant.4) in (
       k ∙ sym r,
       (rw k at w.invariant.3) ∙ ap (λ (g : ℕ → ℕ → Float). grid m.n m.n g m.t.now) (sym (swept-taken binary32 m.n e m.n (omega arith) r)),
     )
 
-pub fill-columns-spec : {M : Type 1} → statement M
-fill-columns-spec =
+pub fill_columns_spec : {M : Type 1} → statement M
+fill_columns_spec =
     tie.close
     (tie.spec
     invariant-loop
     decreases-loop
-    loop-holds
-    fill-column-requires
-    enum-known-q
-    enum_told
-    same_length
-    returns
-    add-i
-    loop-less
-    loop-again
-    same-length-2
-    returns-2)
+    loop-i-init
+    fill_column-requires
+    enum_known-q
+    enum_told-1
+    shape_of-t-in_default
+    returns-in_default
+    overflow_add-i
+    loop-i-smaller
+    loop-i-preserved
+    shape_of-t
+    returns)

@@ -5,67 +5,67 @@ use Rattle.grids.proofs.Grids.{part_rest}
 use Rattle.columns.proofs.rest_at.Statement.{statement}
 use Rattle.columns.proofs.rest_at.Tie as tie
 
-mul-p : tie.Need-overflow-mul-p
-mul-p c = search rules
+overflow_mul-p : tie.Need-overflow_mul-p
+overflow_mul-p c = search rules
 
-mul-q : tie.Need-overflow-mul-q
-mul-q c = search rules
+overflow_mul-q : tie.Need-overflow_mul-q
+overflow_mul-q c = search rules
 
-add-less-dot : tie.Need-overflow-add-less-dot
-add-less-dot c = search rules
+overflow_add-p : tie.Need-overflow_add-p
+overflow_add-p c = search rules
 
-mul-less-dot : tie.Need-overflow-mul-less-dot
-mul-less-dot c = search rules
+offset_bounds-t-p : tie.Need-offset_bounds-t-p
+offset_bounds-t-p c = search rules
 
-shared-slice-read-less-dot : tie.Need-shared-slice-read-less-dot
-shared-slice-read-less-dot c = search rules
+bounds-t-p : tie.Need-bounds-t-p
+bounds-t-p c = search rules
 
-mul-less-dot-2 : tie.Need-overflow-mul-less-dot-2
-mul-less-dot-2 c = search rules
+offset_bounds-t-p-2 : tie.Need-offset_bounds-t-p-2
+offset_bounds-t-p-2 c = search rules
 
-sub-less-dot : tie.Need-overflow-sub-less-dot
-sub-less-dot c = search rules
+slice_bounds-less_dot-count : tie.Need-slice_bounds-less_dot-count
+slice_bounds-less_dot-count c = search rules
 
-part-less-dot-start : tie.Need-slice-bounds-less-dot-start
-part-less-dot-start c = search rules
+slice-bounds-less-dot-start : tie.Need-slice-bounds-less-dot-start
+slice-bounds-less-dot-start c = search rules
 
-part-less-dot-end : tie.Need-slice-bounds-less-dot-end
-part-less-dot-end c = search rules
+slice-bounds-less-dot-end : tie.Need-slice-bounds-less-dot-end
+slice-bounds-less-dot-end c = search rules
 
-mul-less-dot-3 : tie.Need-overflow-mul-less-dot-3
-mul-less-dot-3 c = search rules
+offset_bounds-t-q : tie.Need-offset_bounds-t-q
+offset_bounds-t-q c = search rules
 
-sub-less-dot-2 : tie.Need-overflow-sub-less-dot-2
-sub-less-dot-2 c = search rules
+slice_bounds-less_dot-count-2 : tie.Need-slice_bounds-less_dot-count-2
+slice_bounds-less_dot-count-2 c = search rules
 
-part-less-dot-start-2 : tie.Need-slice-bounds-less-dot-start-2
-part-less-dot-start-2 c = search rules
+slice-bounds-less-dot-start-2 : tie.Need-slice-bounds-less-dot-start-2
+slice-bounds-less-dot-start-2 c = search rules
 
-part-less-dot-end-2 : tie.Need-slice-bounds-less-dot-end-2
-part-less-dot-end-2 c = search rules
+slice-bounds-less-dot-end-2 : tie.Need-slice-bounds-less-dot-end-2
+slice-bounds-less-dot-end-2 c = search rules
 
-less-dot-requires : tie.Need-less-dot-requires
-less-dot-requires c κs = search rules
+less_dot-requires : tie.Need-less_dot-requires
+less_dot-requires c κs = search rules
 
 returns : tie.Need-returns
-returns c = rw c.less-dot.ensures (simp (part_rest, get_or-drop))
+returns c = rw c.less_dot.ensures (simp (part_rest, get_or-drop))
 
-pub rest-at-spec : {M : Type 1} → statement M
-rest-at-spec =
+pub rest_at_spec : {M : Type 1} → statement M
+rest_at_spec =
     tie.close
     (tie.spec
-    mul-p
-    mul-q
-    add-less-dot
-    mul-less-dot
-    shared-slice-read-less-dot
-    mul-less-dot-2
-    sub-less-dot
-    part-less-dot-start
-    part-less-dot-end
-    mul-less-dot-3
-    sub-less-dot-2
-    part-less-dot-start-2
-    part-less-dot-end-2
-    less-dot-requires
+    overflow_mul-p
+    overflow_mul-q
+    overflow_add-p
+    offset_bounds-t-p
+    bounds-t-p
+    offset_bounds-t-p-2
+    slice_bounds-less_dot-count
+    slice-bounds-less-dot-start
+    slice-bounds-less-dot-end
+    offset_bounds-t-q
+    slice_bounds-less_dot-count-2
+    slice-bounds-less-dot-start-2
+    slice-bounds-less-dot-end-2
+    less_dot-requires
     returns)

@@ -12,40 +12,40 @@ use Rattle.factors.proofs.Sideways.{side_start, side_more}
 use Rattle.first_pass.proofs.solve.Statement.{statement}
 use Rattle.first_pass.proofs.solve.Tie as tie
 
-abbrev invariant-loop : tie.invariant-loop
+abbrev invariant-loop : tie.invariant-loop-i
 invariant-loop n l inv₀ i₀ inv i = (i ≤ n) × (length inv ≡ length inv₀) × (inv ≡ grid n n (solved_below binary32 (cell n l) (cell n inv₀) i) inv₀)
 
-abbrev decreases-loop : tie.decreases-loop
+abbrev decreases-loop : tie.decreases-loop-i
 decreases-loop n l inv₀ i₀ inv i = n - i
 
-loop-holds : tie.Need-loop-init invariant-loop decreases-loop
-loop-holds c = let m = c.before.before.args in (omega arith, refl, side_start binary32 m.n (cell m.n m.l.now) m.inv.now)
+loop-i-init : tie.Need-loop-i-init invariant-loop decreases-loop
+loop-i-init c = let m = c.args in (omega arith, refl, side_start binary32 m.n (cell m.n m.l.now) m.inv.now)
 
-solve-row-requires : tie.Need-solve-row-requires invariant-loop decreases-loop
-solve-row-requires c κs = let m = c.before.before.before.before.before.args in omega (arith, row_in m.n m.n c.before.before.loop.i (omega arith))
+solve_row-requires : tie.Need-solve_row-requires invariant-loop decreases-loop
+solve_row-requires c κs = let m = c.args in omega (arith, row_in m.n m.n c.loop-i.i (omega arith))
 
-loop-again : tie.Need-loop-preserved invariant-loop decreases-loop
-loop-again c =
-    let m = c.before.before.before.before.before.before.before.before.args in
-    let w = c.before.before.before.before.before.loop in (
+loop-i-preserved : tie.Need-loop-i-preserved invariant-loop decreases-loop
+loop-i-preserved c =
+    let m = c.args in
+    let w = c.loop-i in (
       omega arith,
       omega arith,
-      rw add-one (side_more binary32 m.n (cell m.n m.l.now) m.inv.now w.inv _ w.i (omega arith) (omega arith) w.invariant.2 c.before.before.solve-row.ensures),
+      rw add-one (side_more binary32 m.n (cell m.n m.l.now) m.inv.now w.inv _ w.i (omega arith) (omega arith) w.invariant.2 c.solve_row.ensures),
     )
 
 returns : tie.Need-returns invariant-loop decreases-loop
-returns c = let k : c.before.loop.i ≡ c.before.before.before.before.args.n = omega arith in rw k at c.before.loop.invariant.2
+returns c = let k : c.loop-i.i ≡ c.args.n = omega arith in rw k at c.loop-i.invariant.2
 
-pub solve-spec : {M : Type 1} → statement M
-solve-spec =
+pub solve_spec : {M : Type 1} → statement M
+solve_spec =
     tie.close
     (tie.spec
     invariant-loop
     decreases-loop
-    loop-holds
-    solve-row-requires
+    loop-i-init
+    solve_row-requires
     (λ c. omega arith)
     (λ c. omega arith)
-    loop-again
-    (λ c. c.before.loop.invariant.1)
+    loop-i-preserved
+    (λ c. c.loop-i.invariant.1)
     returns)

@@ -11,52 +11,47 @@ use Rattle.first_pass.proofs.Rows.{one_bits, cell-solved, four-solved, row_solve
 use Rattle.first_pass.proofs.solve_row.Statement.{statement}
 use Rattle.first_pass.proofs.solve_row.Tie as tie
 
-abbrev invariant-loop : tie.invariant-loop
+abbrev invariant-loop : tie.invariant-loop-j
 invariant-loop n i l inv₀ d j₀ inv j = (j ≤ i) × Writing (i * n) (i + 1) (solved_cell binary32 n l inv₀ i) inv₀ inv j
 
-abbrev decreases-loop : tie.decreases-loop
+abbrev decreases-loop : tie.decreases-loop-j
 decreases-loop n i l inv₀ d j₀ inv j = i - j
 
-abbrev invariant-loop2 : tie.invariant-loop2
+abbrev invariant-loop2 : tie.invariant-loop-j-2
 invariant-loop2 n i l inv₀ d j₀ inv j = (j ≤ i) × Onward (i * n) (i + 1) (λ z. solved_cell binary32 n l z i) inv₀ j₀ inv j
 
-abbrev decreases-loop2 : tie.decreases-loop2
+abbrev decreases-loop2 : tie.decreases-loop-j-2
 decreases-loop2 n i l inv₀ d j₀ inv j = i - j
 
-loop-again : tie.Need-loop-preserved invariant-loop decreases-loop invariant-loop2 decreases-loop2
-loop-again c =
-    let top = c.before.before.before.before.before.before.before.before in
-    let start = top.before.before.before.before.before in
-    let m = start.args in
-    let w = top.loop.invariant.1 in
-    let more = c.before.before.before.before.before.before.before.loop-test.true in
-    let v = four-solved binary32 m.n m.l.now m.inv.now m.i start.requires.0 top.loop.inv top.loop.j w more c.before.before.before.before.before.before.before.before.before.recip.ensures c.before.before.before.scaled.ensures c.before.before.before.before.before.four-sums.ensures in
-    (more, four_more w (omega (arith, more)) refl v c.before.before.put.ensures)
+loop-j-preserved : tie.Need-loop-j-preserved invariant-loop decreases-loop invariant-loop2 decreases-loop2
+loop-j-preserved c =
+    let m = c.args in
+    let w = c.loop-j.invariant.1 in
+    let more = c.loop-j-test.true in
+    let v = four-solved binary32 m.n m.l.now m.inv.now m.i c.requires.0 c.loop-j.inv c.loop-j.j w more c.recip-d.ensures c.scaled.ensures c.four_sums-t.ensures in
+    (more, four_more w (omega (arith, more)) refl v c.put.ensures)
 
-loop2-again : tie.Need-loop2-preserved invariant-loop decreases-loop invariant-loop2 decreases-loop2
-loop2-again c =
-    let top = c.before.before.before in
-    let start = c.before.before.before.before.before.before.before.before.before.before in
-    let m = start.args in
-    let less = c.before.before.loop2-test.true in (
+loop-j-2-preserved : tie.Need-loop-j-2-preserved invariant-loop decreases-loop invariant-loop2 decreases-loop2
+loop-j-2-preserved c =
+    let m = c.args in
+    let less = c.loop-j-2-test.true in (
       omega (arith, less),
-      one_onward top.loop2.invariant.1 (omega (arith, less)) refl (λ z w.
-          cell-solved binary32 m.n m.l.now z m.i start.requires.0 top.loop2.inv top.loop2.j w top.loop2.j less c.before.before.before.before.before.before.recip.ensures refl c.one-sum.ensures),
+      one_onward c.loop-j-2.invariant.1 (omega (arith, less)) refl (λ z w.
+          cell-solved binary32 m.n m.l.now z m.i c.requires.0 c.loop-j-2.inv c.loop-j-2.j w c.loop-j-2.j less c.recip-d.ensures refl c.one_sum-t.ensures),
     )
 
-same_length : tie.Need-same-length invariant-loop decreases-loop invariant-loop2 decreases-loop2
-same_length c = simp length-set (c.before.loop2.invariant.1.size ∙ c.before.before.before.loop.invariant.1.size)
+shape_of-inv : tie.Need-shape_of-inv invariant-loop decreases-loop invariant-loop2 decreases-loop2
+shape_of-inv c = simp length-set (c.loop-j-2.invariant.1.size ∙ c.loop-j.invariant.1.size)
 
 returns : tie.Need-returns invariant-loop decreases-loop invariant-loop2 decreases-loop2
 returns c =
-    let start = c.before.before.before.before.before.before.before.before in
-    let m = start.args in
-    let end = c.before.loop2 in
-    let w = end.invariant.1.goes_on m.inv.now c.before.before.before.loop.invariant.1 in
-    row_solved binary32 m.n m.l.now m.inv.now m.i start.requires.0 end.inv end.j w end.invariant.0 c.loop2-test.false one_bits c.before.before.before.before.recip.ensures
+    let m = c.args in
+    let end = c.loop-j-2 in
+    let w = end.invariant.1.goes_on m.inv.now c.loop-j.invariant.1 in
+    row_solved binary32 m.n m.l.now m.inv.now m.i c.requires.0 end.inv end.j w end.invariant.0 c.loop-j-2-test.false one_bits c.recip-d.ensures
 
-pub solve-row-spec : {M : Type 1} → statement M
-solve-row-spec =
+pub solve_row_spec : {M : Type 1} → statement M
+solve_row_spec =
     tie.close
     (tie.spec
     invariant-loop
@@ -77,8 +72,8 @@ solve-row-spec =
     (λ c κs. omega arith)
     (λ c. omega arith)
     (λ c. omega arith)
-    loop-again
-    (λ c. (omega arith, onward c.before.loop.invariant.1.within))
+    loop-j-preserved
+    (λ c. (omega arith, onward c.loop-j.invariant.1.within))
     (λ c κs. omega arith)
     (λ c. omega arith)
     (λ c. omega arith)
@@ -86,10 +81,10 @@ solve-row-spec =
     (λ c. omega arith)
     (λ c. omega arith)
     (λ c. omega arith)
-    loop2-again
+    loop-j-2-preserved
     (λ c. omega arith)
     (λ c. omega arith)
     (λ c. omega arith)
     (λ c. omega arith)
-    same_length
+    shape_of-inv
     returns)

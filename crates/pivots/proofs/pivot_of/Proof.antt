@@ -4,19 +4,18 @@ use borrow.Author.Rules.{rules}
 use Rattle.pivots.proofs.pivot_of.Statement.{statement}
 use Rattle.pivots.proofs.pivot_of.Tie as tie
 
-square-root-requires : tie.Need-square-root-requires
-square-root-requires c κs = search rules
+square_root-r-requires : tie.Need-square_root-r-requires
+square_root-r-requires c κs = search rules
 
 recip-requires : tie.Need-recip-requires
 recip-requires c κs = search rules
 
-returns : tie.Need-returns
-returns c =
-    let then = c.before.before in
-    simp (sym then.before.taken.ensures ∙ then.if1.true, c.recip.ensures, c.before.square-root.ensures)
+returns-then-taken : tie.Need-returns-then-taken
+returns-then-taken c =
+    simp (sym c.taken.ensures ∙ c.if-taken.true, c.recip.ensures, c.square_root-r.ensures)
 
-returns-2 : tie.Need-returns-2
-returns-2 c = simp (sym c.before.taken.ensures ∙ c.if1.false)
+returns-else-taken : tie.Need-returns-else-taken
+returns-else-taken c = simp (sym c.taken.ensures ∙ c.if-taken.false)
 
-pub pivot-of-spec : {M : Type 1} → statement M
-pivot-of-spec = tie.close (tie.spec (λ c κs. tt) square-root-requires recip-requires returns returns-2)
+pub pivot_of_spec : {M : Type 1} → statement M
+pivot_of_spec = tie.close (tie.spec (λ c κs. tt) square_root-r-requires recip-requires returns-then-taken returns-else-taken)

@@ -12,13 +12,13 @@ use Rattle.pivots.proofs.taken.Tie as tie
 -- the two tests, on what owning an `f32` tells: the format holds it
 tests : (c : tie.Start) → pivot_taken c.args.sum ≡ lt (of_bits binary32 0) c.args.sum && le c.args.sum (of_bits binary32 0x7f7fffff)
 unfolding of_bits
-tests c = taken_up_to binary32 c.args.sum (subst T (sym c.well-formed.0.1) tt)
+tests c = taken_up_to binary32 c.args.sum (subst T (sym c.well_formed.0.1) tt)
 
-returns : tie.Need-returns
-returns c = simp (tests c.before, c.if1.true)
+returns-then-sum : tie.Need-returns-then-sum
+returns-then-sum c = simp (tests c.before, c.if-sum.true)
 
-returns-2 : tie.Need-returns-2
-returns-2 c = simp (tests c.before, c.if1.false)
+returns-else-sum : tie.Need-returns-else-sum
+returns-else-sum c = simp (tests c.before, c.if-sum.false)
 
-pub taken-spec : {M : Type 1} → statement M
-taken-spec = tie.close (tie.spec returns returns-2)
+pub taken_spec : {M : Type 1} → statement M
+taken_spec = tie.close (tie.spec returns-then-sum returns-else-sum)

@@ -12,49 +12,49 @@ use Rattle.factors.proofs.Mirrored.{down_to, none-back, row_back, all_back}
 use Rattle.second_pass.proofs.solve_back.Statement.{statement}
 use Rattle.second_pass.proofs.solve_back.Tie as tie
 
-abbrev invariant-loop : tie.invariant-loop
+abbrev invariant-loop : tie.invariant-loop-i
 invariant-loop n l inv₀ i₀ inv i = (i ≤ n) × (length inv ≡ length inv₀) × (inv ≡ grid n n (down_to i (cell n inv₀) (back binary32 n (cell n l) (mirrored (cell n inv₀)) (n - i))) inv₀)
 
-abbrev decreases-loop : tie.decreases-loop
+abbrev decreases-loop : tie.decreases-loop-i
 decreases-loop n l inv₀ i₀ inv i = i
 
-loop-holds : tie.Need-loop-init invariant-loop decreases-loop
-loop-holds c = let m = c.before.before.args in (omega arith, refl, none-back binary32 m.n (cell m.n m.l.now) m.inv.now)
+loop-i-init : tie.Need-loop-i-init invariant-loop decreases-loop
+loop-i-init c = let m = c.args in (omega arith, refl, none-back binary32 m.n (cell m.n m.l.now) m.inv.now)
 
-sub-i : tie.Need-overflow-sub-i invariant-loop decreases-loop
-sub-i c = omega arith
+overflow_sub-i : tie.Need-overflow_sub-i invariant-loop decreases-loop
+overflow_sub-i c = omega arith
 
-back-row-requires : tie.Need-back-row-requires invariant-loop decreases-loop
-back-row-requires c κs = let m = c.before.before.before.before.before.args in omega (arith, row_in m.n m.n (c.before.before.loop.i - 1) (omega arith))
+back_row-requires : tie.Need-back_row-requires invariant-loop decreases-loop
+back_row-requires c κs = let m = c.args in omega (arith, row_in m.n m.n (c.loop-i.i - 1) (omega arith))
 
-loop-less : tie.Need-loop-smaller invariant-loop decreases-loop
-loop-less c = omega arith
+loop-i-smaller : tie.Need-loop-i-smaller invariant-loop decreases-loop
+loop-i-smaller c = omega arith
 
-loop-again : tie.Need-loop-preserved invariant-loop decreases-loop
-loop-again c =
-    let m = c.before.before.before.before.before.before.before.before.args in
-    let w = c.before.before.before.before.before.loop in (
+loop-i-preserved : tie.Need-loop-i-preserved invariant-loop decreases-loop
+loop-i-preserved c =
+    let m = c.args in
+    let w = c.loop-i in (
       omega arith,
       omega arith,
-      row_back binary32 m.n (cell m.n m.l.now) m.inv.now w.inv _ w.i (omega arith) (omega arith) (omega arith) w.invariant.2 c.before.before.back-row.ensures,
+      row_back binary32 m.n (cell m.n m.l.now) m.inv.now w.inv _ w.i (omega arith) (omega arith) (omega arith) w.invariant.2 c.back_row.ensures,
     )
 
-same_length : tie.Need-same-length invariant-loop decreases-loop
-same_length c = c.before.loop.invariant.1
+shape_of-inv : tie.Need-shape_of-inv invariant-loop decreases-loop
+shape_of-inv c = c.loop-i.invariant.1
 
 returns : tie.Need-returns invariant-loop decreases-loop
-returns c = let m = c.before.before.before.before.args in all_back binary32 m.n (cell m.n m.l.now) m.inv.now _ c.before.loop.i (omega arith) c.before.loop.invariant.2
+returns c = let m = c.args in all_back binary32 m.n (cell m.n m.l.now) m.inv.now _ c.loop-i.i (omega arith) c.loop-i.invariant.2
 
-pub solve-back-spec : {M : Type 1} → statement M
-solve-back-spec =
+pub solve_back_spec : {M : Type 1} → statement M
+solve_back_spec =
     tie.close
     (tie.spec
     invariant-loop
     decreases-loop
-    loop-holds
-    sub-i
-    back-row-requires
-    loop-less
-    loop-again
-    same_length
+    loop-i-init
+    overflow_sub-i
+    back_row-requires
+    loop-i-smaller
+    loop-i-preserved
+    shape_of-inv
     returns)

@@ -20,62 +20,56 @@ use Rattle.thin_sums.proofs.plus_rows.Tie as tie
 abbrev made : ℕ → List Float → ℕ → ℕ → Float → Float
 made cols q i j x = add binary32 x (cell cols q i j)
 
-abbrev invariant-loop : tie.invariant-loop
+abbrev invariant-loop : tie.invariant-loop-r
 invariant-loop rows inner cols a b q c₀ one two r₀ c r = Rows rows cols (λ i j. made cols q i j (times binary32 inner (cell inner a) (strided 1 inner b) i j)) c₀ c r
 
-abbrev decreases-loop : tie.decreases-loop
+abbrev decreases-loop : tie.decreases-loop-r
 decreases-loop rows inner cols a b q c₀ one two r₀ c r = rows - r
 
 -- where the columns lie
-apart : (c : tie.Joined2 invariant-loop decreases-loop) → let m = c.before.before.before.before.before.before.args in Offsets m.cols m.inner c.before.if1.one c.if2.two
+apart : (c : tie.Joined-cols-ge3 invariant-loop decreases-loop) → let m = c.args in Offsets m.cols m.inner c.if-cols-ge2.one c.if-cols-ge3.two
 apart c =
-    let given = c.before.before.before.before.before.before.requires in
-    offsets given.0 given.1 (⊎_elim (λ s. inl (s.0.taken, s.1)) (λ s. inr (s.0.left, s.1)) c.before.if1.branch) (⊎_elim (λ s. inl (s.0.taken, s.1)) (λ s. inr (s.0.left, s.1)) c.if2.branch)
+    let given = c.requires in
+    offsets given.0 given.1 (⊎_elim (λ s. inl (s.0.taken, s.1)) (λ s. inr (s.0.left, s.1)) c.if-cols-ge2.branch) (⊎_elim (λ s. inl (s.0.taken, s.1)) (λ s. inr (s.0.left, s.1)) c.if-cols-ge3.branch)
 
 -- row r lies in a, in q and in c
-in_a : (c : tie.In-loop invariant-loop decreases-loop) → let m = c.before.before.before.before.before.before.before.before.args in c.before.loop.r * m.inner + m.inner ≤ length m.a.now
+in_a : (c : tie.In-loop-r invariant-loop decreases-loop) → let m = c.args in c.loop-r.r * m.inner + m.inner ≤ length m.a.now
 in_a c =
-    let top = c.before.before.before.before.before.before.before.before in
-    omega (arith, row_in top.args.rows top.args.inner c.before.loop.r c.loop-test.true, top.requires.3)
+    omega (arith, row_in c.args.rows c.args.inner c.loop-r.r c.loop-r-test.true, c.requires.3)
 
-in_q : (c : tie.In-loop invariant-loop decreases-loop) → let m = c.before.before.before.before.before.before.before.before.args in c.before.loop.r * m.cols + m.cols ≤ length m.q.now
+in_q : (c : tie.In-loop-r invariant-loop decreases-loop) → let m = c.args in c.loop-r.r * m.cols + m.cols ≤ length m.q.now
 in_q c =
-    let top = c.before.before.before.before.before.before.before.before in
-    omega (arith, row_in top.args.rows top.args.cols c.before.loop.r c.loop-test.true, top.requires.5)
+    omega (arith, row_in c.args.rows c.args.cols c.loop-r.r c.loop-r-test.true, c.requires.5)
 
-in_c : (c : tie.In-loop invariant-loop decreases-loop) → let m = c.before.before.before.before.before.before.before.before.args in c.before.loop.r * m.cols + m.cols ≤ length c.before.loop.c
+in_c : (c : tie.In-loop-r invariant-loop decreases-loop) → let m = c.args in c.loop-r.r * m.cols + m.cols ≤ length c.loop-r.c
 in_c c =
-    let top = c.before.before.before.before.before.before.before.before in
-    omega (arith, row_in top.args.rows top.args.cols c.before.loop.r c.loop-test.true, c.before.loop.invariant.size, top.requires.6)
+    omega (arith, row_in c.args.rows c.args.cols c.loop-r.r c.loop-r-test.true, c.loop-r.invariant.size, c.requires.6)
 
-three-totals-requires : tie.Need-three-totals-requires invariant-loop decreases-loop
-three-totals-requires c κs =
-    let top = c.before.before.before.before.before.before.before.before.before in
-    let m = top.args in
-    (in_a c.before, columns_in m.inner 1 m.b.now top.requires.0 (transpose_in m.inner m.cols m.b.now top.requires.4) (apart c.before.before.before))
+three_totals-requires : tie.Need-three_totals-requires invariant-loop decreases-loop
+three_totals-requires c κs =
+    let m = c.args in
+    (in_a c.before, columns_in m.inner 1 m.b.now c.requires.0 (transpose_in m.inner m.cols m.b.now c.requires.4) (apart c.before.before.before))
 
-put-sums-requires : tie.Need-put-sums-requires invariant-loop decreases-loop
-put-sums-requires c κs =
-    let given = c.before.before.before.before.before.before.before.before.before.before.requires in
+put_sums-requires : tie.Need-put_sums-requires invariant-loop decreases-loop
+put_sums-requires c κs =
+    let given = c.requires in
     (given.0, given.1, in_c c.before.before, in_q c.before.before)
 
-loop-again : tie.Need-loop-preserved invariant-loop decreases-loop
-loop-again c =
-    let turn = c.before.before.before.before.before in
-    let top = turn.before.before.before.before.before.before.before.before in
-    let m = top.args in
-    let sums = c.before.before.before.three-totals in
-    row_put binary32 m.inner (cell m.inner m.a.now) m.b.now 1 (made m.cols m.q.now) sums.result turn.before.loop.invariant turn.loop-test.true top.requires.1 (apart turn.before.before) sums.ensures c.before.before.put-sums.ensures
+loop-r-preserved : tie.Need-loop-r-preserved invariant-loop decreases-loop
+loop-r-preserved c =
+    let m = c.args in
+    let sums = c.three_totals in
+    row_put binary32 m.inner (cell m.inner m.a.now) m.b.now 1 (made m.cols m.q.now) sums.result c.loop-r.invariant c.loop-r-test.true c.requires.1 (apart c.before.before) sums.ensures c.put_sums.ensures
 
 returns : tie.Need-returns invariant-loop decreases-loop
 returns c =
-    let m = c.before.before.before.before.before.before.before.before.args in
-    all_rows c.before.loop.invariant c.loop-test.false
+    let m = c.args in
+    all_rows c.loop-r.invariant c.loop-r-test.false
     ∙ grid_ext m.rows m.cols _ _ m.c.now
     (λ i j hi hj. ap (made m.cols m.q.now i j) (transpose_alike binary32 m.rows m.inner m.cols m.a.now m.b.now i j hi hj))
 
-pub plus-rows-spec : {M : Type 1} → statement M
-plus-rows-spec =
+pub plus_rows_spec : {M : Type 1} → statement M
+plus_rows_spec =
     tie.close
     (tie.spec
     invariant-loop
@@ -83,10 +77,10 @@ plus-rows-spec =
     (λ c. omega arith)
     (λ c. no_rows)
     (λ c. omega (arith, in_c c.before))
-    three-totals-requires
-    put-sums-requires
+    three_totals-requires
+    put_sums-requires
     (λ c. omega arith)
     (λ c. omega arith)
-    loop-again
-    (λ c. c.before.loop.invariant.size)
+    loop-r-preserved
+    (λ c. c.loop-r.invariant.size)
     returns)

@@ -23,21 +23,21 @@ first_at : (t : Three) (q : List Float) (at : ℕ) → add binary32 t.t0 (get_or
 first_at t q at = let e : at ≡ at + 0 = omega arith in ap (λ (i : ℕ). add binary32 t.t0 (get_or q i nan)) e
 
 -- one or two are stored
-some_put : (c : tie.Joined1) → let m = c.before.before.before.args in Writing m.at m.cols (sum m.t m.q.now m.at) m.c.now c.if1.c (min m.cols 2)
+some_put : (c : tie.Joined-cols-ge2) → let m = c.args in Writing m.at m.cols (sum m.t m.q.now m.at) m.c.now c.if-cols-ge2.c (min m.cols 2)
 some_put c =
-    let m = c.before.before.before.args in
-    law.some-put c.before.before.before.requires.0 (first_at m.t m.q.now m.at) refl
-    (⊎_elim (λ s. inl (s.0.taken, s.3)) (λ s. inr (s.0.left, s.1)) c.if1.branch)
+    let m = c.args in
+    law.some-put c.requires.0 (first_at m.t m.q.now m.at) refl
+    (⊎_elim (λ s. inl (s.0.taken, s.3)) (λ s. inr (s.0.left, s.1)) c.if-cols-ge2.branch)
 
 -- and the third
 third_put :
-    (c : tie.Then2) → let m = c.before.before.before.before.args in
+    (c : tie.Then-cols-ge3) → let m = c.args in
     let g = sum m.t m.q.now m.at in
-    Writing m.at m.cols g m.c.now (set c.before.if1.c (m.at + 2) (g 2)) 3
-third_put c = law.third-put c.if2.true refl (some_put c.before)
+    Writing m.at m.cols g m.c.now (set c.if-cols-ge2.c (m.at + 2) (g 2)) 3
+third_put c = law.third-put c.if-cols-ge3.true refl (some_put c.before)
 
-pub put-sums-spec : {M : Type 1} → statement M
-put-sums-spec =
+pub put_sums_spec : {M : Type 1} → statement M
+put_sums_spec =
     tie.close
     (tie.spec
     (λ c. search rules)
@@ -57,6 +57,6 @@ put-sums-spec =
     (λ c. search rules)
     (λ c. omega (arith, (some_put c.before.before.before).size))
     (λ c. (third_put c.before.before).size)
-    (λ c. all_written (third_put c.before.before) c.before.before.before.before.before.before.requires.1)
+    (λ c. all_written (third_put c.before.before) c.requires.1)
     (λ c. (some_put c.before).size)
     (λ c. all_written (some_put c.before) (omega arith)))

@@ -7,18 +7,17 @@ use Rattle.three_inverse.proofs.Entries.{inverse_put}
 use Rattle.three_inverse.proofs.invert_three.Statement.{statement}
 use Rattle.three_inverse.proofs.invert_three.Tie as tie
 
-same_length : tie.Need-same-length
-same_length c = simp length-set (omega arith)
+shape_of-inv : tie.Need-shape_of-inv
+shape_of-inv c = simp length-set (omega arith)
 
 returns : tie.Need-returns
 unfolding of_bits
 returns c =
-    let m = c.before.before.before.before.before.before.before.before.before.before.before.before.before.before.before.before.before.before.before.args in
-    let r = c.before.before.before.before.before.before.before.before in
-    inverse_put binary32 m.l.now m.inv.now _ _ _ _ _ r.before.before.before.before.before.before.before.recip.ensures r.before.before.before.before.recip2.ensures r.recip3.ensures c.before.before.before.before.before.before.put_four.ensures c.before.before.put-four2.ensures
+    let m = c.args in
+    inverse_put binary32 m.l.now m.inv.now _ _ _ _ _ c.recip-d0.ensures c.recip-d1.ensures c.recip-d2.ensures c.put_four.ensures c.put_four-2.ensures
 
-pub invert-three-spec : {M : Type 1} → statement M
-invert-three-spec =
+pub invert_three_spec : {M : Type 1} → statement M
+invert_three_spec =
     tie.close
     (tie.spec
     (λ c. search rules)
@@ -33,5 +32,5 @@ invert-three-spec =
     (λ c κs. search rules)
     (λ c κs. search rules)
     (λ c. search rules)
-    same_length
+    shape_of-inv
     returns)

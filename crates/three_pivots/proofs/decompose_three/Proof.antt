@@ -7,38 +7,34 @@ use Rattle.three_pivots.proofs.Ends.{rooted, refused, first_refused, second_refu
 use Rattle.three_pivots.proofs.decompose_three.Statement.{statement}
 use Rattle.three_pivots.proofs.decompose_three.Tie as tie
 
+returns-in_default : tie.Need-returns-in_default
+unfolding of_bits
+returns-in_default c =
+    first_refused binary32 c.args.t.now c.requires (refused binary32 _ _ _ c.pivot_of.ensures c.in_default.is)
+
+returns-in_default-pivot_of : tie.Need-returns-in_default-pivot_of
+returns-in_default-pivot_of c =
+    second_refused binary32 c.args.t.now c.requires _ _
+    (rooted binary32 _ _ _ _ c.pivot_of.ensures c.in-Accepted.is)
+    (refused binary32 _ _ _ c.pivot_of-2.ensures c.in_default-pivot_of.is)
+
+returns-in_default-pivot_of-2 : tie.Need-returns-in_default-pivot_of-2
+returns-in_default-pivot_of-2 c =
+    third_refused binary32 c.args.t.now c.requires _ _ _ _
+    (rooted binary32 _ _ _ _ c.pivot_of.ensures c.in-Accepted.is)
+    (rooted binary32 _ _ _ _ c.pivot_of-2.ensures c.in-Accepted-pivot_of.is)
+    (refused binary32 _ _ _ c.pivot_of-3.ensures c.in_default-pivot_of-2.is)
+
 returns : tie.Need-returns
 unfolding of_bits
 returns c =
-    let m = c.before.before.before.before.before.before.before.before.before.before in
-    first_refused binary32 m.args.t.now m.requires (refused binary32 _ _ _ c.before.before.pivot-of.ensures c.enum_told.given.1)
+    all_taken binary32 c.args.t.now c.requires _ _ _ _ _ _
+    (rooted binary32 _ _ _ _ c.pivot_of.ensures c.in-Accepted.is)
+    (rooted binary32 _ _ _ _ c.pivot_of-2.ensures c.in-Accepted-pivot_of.is)
+    (rooted binary32 _ _ _ _ c.pivot_of-3.ensures c.in-Accepted-pivot_of-2.is)
 
-returns-2 : tie.Need-returns-2
-returns-2 c =
-    let m = c.before.before.before.before.before.before.before.before.before.before.before.before.before.before in
-    second_refused binary32 m.args.t.now m.requires _ _
-    (rooted binary32 _ _ _ _ c.before.before.before.before.before.before.pivot-of.ensures c.before.before.before.before.l00.given.1)
-    (refused binary32 _ _ _ c.before.before.pivot-of2.ensures c.enum-told2.given.1)
-
-returns-3 : tie.Need-returns-3
-returns-3 c =
-    let m = c.before.before.before.before.before.before.before.before.before.before.before.before.before.before.before.before.before.before in
-    third_refused binary32 m.args.t.now m.requires _ _ _ _
-    (rooted binary32 _ _ _ _ c.before.before.before.before.before.before.before.before.before.before.pivot-of.ensures c.before.before.before.before.before.before.before.before.l00.given.1)
-    (rooted binary32 _ _ _ _ c.before.before.before.before.before.before.pivot-of2.ensures c.before.before.before.before.l11.given.1)
-    (refused binary32 _ _ _ c.before.before.pivot-of3.ensures c.enum-told3.given.1)
-
-returns-4 : tie.Need-returns-4
-unfolding of_bits
-returns-4 c =
-    let m = c.before.before.before.before.before.before.before.before.before.before.before.before.before.before.before.before.before.before.before in
-    all_taken binary32 m.args.t.now m.requires _ _ _ _ _ _
-    (rooted binary32 _ _ _ _ c.before.before.before.before.before.before.before.before.before.before.before.pivot-of.ensures c.before.before.before.before.before.before.before.before.before.l00.given.1)
-    (rooted binary32 _ _ _ _ c.before.before.before.before.before.before.before.pivot-of2.ensures c.before.before.before.before.before.l11.given.1)
-    (rooted binary32 _ _ _ _ c.before.before.before.pivot-of3.ensures c.before.l22.given.1)
-
-pub decompose-three-spec : {M : Type 1} → statement M
-decompose-three-spec =
+pub decompose_three_spec : {M : Type 1} → statement M
+decompose_three_spec =
     tie.close
     (tie.spec
     (λ c. omega arith)
@@ -52,7 +48,7 @@ decompose-three-spec =
     (λ c. search rules)
     (λ c. omega arith)
     (λ c. simp length-set)
-    returns
+    returns-in_default
     (λ c. omega arith)
     (λ c. simp length-set (omega arith))
     (λ c. simp length-set (omega arith))
@@ -61,7 +57,7 @@ decompose-three-spec =
     (λ c. search rules)
     (λ c. simp length-set (omega arith))
     (λ c. simp length-set)
-    returns-2
+    returns-in_default-pivot_of
     (λ c. simp length-set (omega arith))
     (λ c. simp length-set (omega arith))
     (λ c κs. tt)
@@ -69,10 +65,10 @@ decompose-three-spec =
     (λ c. search rules)
     (λ c. simp length-set (omega arith))
     (λ c. simp length-set)
-    returns-3
+    returns-in_default-pivot_of-2
     (λ c. simp length-set (omega arith))
     (λ c. simp length-set (omega arith))
     (λ c. simp length-set (omega arith))
     (λ c. simp length-set (omega arith))
     (λ c. simp length-set)
-    returns-4)
+    returns)

@@ -7,14 +7,14 @@ use Rattle.three_solved.proofs.Puts.{factor_put}
 use Rattle.three_solved.proofs.put_factor.Statement.{statement}
 use Rattle.three_solved.proofs.put_factor.Tie as tie
 
-same_length : tie.Need-same-length
-same_length c = simp length-set (omega arith)
+shape_of-s : tie.Need-shape_of-s
+shape_of-s c = simp length-set (omega arith)
 
 returns : tie.Need-returns
 unfolding of_bits
 returns c =
-    let m = c.before.before.before.before.before.before.before.before.before.args in
-    factor_put m.v m.s.now _ _ c.before.before.before.before.before.before.put_four.ensures c.before.before.put-four2.ensures
+    let m = c.args in
+    factor_put m.v m.s.now _ _ c.put_four.ensures c.put_four-2.ensures
 
-pub put-factor-spec : {M : Type 1} → statement M
-put-factor-spec = tie.close (tie.spec (λ c κs. search rules) (λ c κs. search rules) (λ c. search rules) same_length returns)
+pub put_factor_spec : {M : Type 1} → statement M
+put_factor_spec = tie.close (tie.spec (λ c κs. search rules) (λ c κs. search rules) (λ c. search rules) shape_of-s returns)

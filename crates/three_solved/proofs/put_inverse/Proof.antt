@@ -7,14 +7,14 @@ use Rattle.three_solved.proofs.Puts.{inverse_put}
 use Rattle.three_solved.proofs.put_inverse.Statement.{statement}
 use Rattle.three_solved.proofs.put_inverse.Tie as tie
 
-same_length : tie.Need-same-length
-same_length c = simp length-set (omega arith)
+shape_of-inv : tie.Need-shape_of-inv
+shape_of-inv c = simp length-set (omega arith)
 
 returns : tie.Need-returns
 unfolding of_bits
 returns c =
-    let m = c.before.before.before.before.before.before.before.before.before.args in
-    inverse_put m.v m.inv.now _ _ c.before.before.before.before.before.before.put_four.ensures c.before.before.put-four2.ensures
+    let m = c.args in
+    inverse_put m.v m.inv.now _ _ c.put_four.ensures c.put_four-2.ensures
 
-pub put-inverse-spec : {M : Type 1} → statement M
-put-inverse-spec = tie.close (tie.spec (λ c κs. search rules) (λ c κs. search rules) (λ c. search rules) same_length returns)
+pub put_inverse_spec : {M : Type 1} → statement M
+put_inverse_spec = tie.close (tie.spec (λ c κs. search rules) (λ c κs. search rules) (λ c. search rules) shape_of-inv returns)

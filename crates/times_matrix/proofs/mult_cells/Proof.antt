@@ -6,18 +6,16 @@ use Rattle.thin_products.proofs.Strides.{as_itself, itself_in}
 use Rattle.times_matrix.proofs.mult_cells.Statement.{statement}
 use Rattle.times_matrix.proofs.mult_cells.Tie as tie
 
-thin-cells-requires : tie.Need-thin-cells-requires
-thin-cells-requires c κs =
-    let top = c.before.before.before.before.before in
-    let m = top.args in
-    let few = c.before.if1.false in
-    (top.requires.3, omega (arith, few), omega arith, top.requires.0, itself_in m.inner m.cols m.b.now top.requires.1, top.requires.2)
+thin_cells-requires : tie.Need-thin_cells-requires
+thin_cells-requires c κs =
+    let m = c.args in
+    let few = c.if-cols-ge4.false in
+    (c.requires.3, omega (arith, few), omega arith, c.requires.0, itself_in m.inner m.cols m.b.now c.requires.1, c.requires.2)
 
-returns-2 : tie.Need-returns-2
-returns-2 c =
-    let top = c.before.before.before.before.before.before.before.before in
-    let m = top.args in
-    as_itself binary32 m.rows m.inner m.cols m.a.now m.b.now m.c.now c.before.before.thin-cells.ensures
+returns-else-cols-ge4 : tie.Need-returns-else-cols-ge4
+returns-else-cols-ge4 c =
+    let m = c.args in
+    as_itself binary32 m.rows m.inner m.cols m.a.now m.b.now m.c.now c.thin_cells.ensures
 
-pub mult-cells-spec : {M : Type 1} → statement M
-mult-cells-spec = tie.close (tie.spec (λ c κs. search rules) thin-cells-requires (λ c. search rules) (λ c. search rules) (λ c. search rules) returns-2)
+pub mult_cells_spec : {M : Type 1} → statement M
+mult_cells_spec = tie.close (tie.spec (λ c κs. search rules) thin_cells-requires (λ c. search rules) (λ c. search rules) (λ c. search rules) returns-else-cols-ge4)

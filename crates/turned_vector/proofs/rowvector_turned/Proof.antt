@@ -9,18 +9,17 @@ use Rattle.turned_vector.proofs.rowvector_turned.Tie as tie
 
 returns : tie.Need-returns
 returns c =
-    let top = c.before.before.before.before.before.before.before.before.before.before.before.before.before.before.before.before.before.before.before.before in
-    let m = top.args in
-    let v = c.before.before.before.before.before.before.before.before.before.before.before.before.before.before.before.before.first_chunks in
+    let m = c.args in
+    let v = c.first_chunks-v in
     sixteen_put m.cols (times_x binary32 m.inner (λ j k. cell m.cols m.t.now k j) (numbers m.x.now)) m.c.now v.result.f0 v.result.f1 v.result.f2 v.result.f3
-    top.requires.1 top.requires.2 v.ensures
-    c.before.before.before.before.before.before.before.before.before.before.before.before.before.before.put.ensures
-    c.before.before.before.before.before.before.before.before.before.before.put2.ensures
-    c.before.before.before.before.before.before.put3.ensures
-    c.before.before.put4.ensures
+    c.requires.1 c.requires.2 v.ensures
+    c.put.ensures
+    c.put-2.ensures
+    c.put-3.ensures
+    c.put-4.ensures
 
-pub rowvector-turned-spec : {M : Type 1} → statement M
-rowvector-turned-spec =
+pub rowvector_turned_spec : {M : Type 1} → statement M
+rowvector_turned_spec =
     tie.close
     (tie.spec
     (λ c. search rules)

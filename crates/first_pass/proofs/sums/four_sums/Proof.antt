@@ -11,10 +11,10 @@ use Rattle.first_pass.proofs.Terms.{SummingFour, four_resumed, four_summed, all_
 use Rattle.first_pass.proofs.sums.four_sums.Statement.{statement}
 use Rattle.first_pass.proofs.sums.four_sums.Tie as tie
 
-abbrev invariant-loop : tie.invariant-loop
+abbrev invariant-loop : tie.invariant-loop-k
 invariant-loop n i j l inv t₀ k₀ t k = SummingFour binary32 n l inv i j t.t0 t.t1 t.t2 t.t3 k
 
-abbrev decreases-loop : tie.decreases-loop
+abbrev decreases-loop : tie.decreases-loop-k
 decreases-loop n i j l inv t₀ k₀ t k = i - k
 
 -- a turn leaves one row fewer
@@ -22,30 +22,29 @@ less : {i k : ℕ} → k < i → i - (k + 1) < i - k
 less h = omega arith
 
 -- row k lies in the buffer
-in_turn : (c : tie.In-loop invariant-loop decreases-loop) → let m = c.before.before.before.before.before.args in c.before.loop.k * m.n + m.n ≤ length m.inv.now
-in_turn c = let m = c.before.before.before.before.before.args in omega (arith, row_in m.i m.n c.before.loop.k c.loop-test.true)
+in_turn : (c : tie.In-loop-k invariant-loop decreases-loop) → let m = c.args in c.loop-k.k * m.n + m.n ≤ length m.inv.now
+in_turn c = let m = c.args in omega (arith, row_in m.i m.n c.loop-k.k c.loop-k-test.true)
 
-triangle-requires : tie.Need-triangle-requires invariant-loop decreases-loop
-triangle-requires c κs =
-    let top = c.before.before in
-    let m = top.args in
-    omega (arith, rows_in m.i m.n m.j top.requires.0)
+triangle-t-requires : tie.Need-triangle-t-requires invariant-loop decreases-loop
+triangle-t-requires c κs =
+    let m = c.args in
+    omega (arith, rows_in m.i m.n m.j c.requires.0)
 
-loop-holds : tie.Need-loop-init invariant-loop decreases-loop
-loop-holds c = four_resumed c.before.before.before.requires.0 c.triangle.ensures
+loop-k-init : tie.Need-loop-k-init invariant-loop decreases-loop
+loop-k-init c = four_resumed c.requires.0 c.triangle-t.ensures
 
-loop-again : tie.Need-loop-preserved invariant-loop decreases-loop
-loop-again c = four_summed c.before.before.before.loop.invariant c.before.before.loop-test.true c.more.ensures refl refl
+loop-k-preserved : tie.Need-loop-k-preserved invariant-loop decreases-loop
+loop-k-preserved c = four_summed c.loop-k.invariant c.loop-k-test.true c.more-t.ensures refl refl
 
-pub four-sums-spec : {M : Type 1} → statement M
-four-sums-spec =
+pub four_sums_spec : {M : Type 1} → statement M
+four_sums_spec =
     tie.close
     (tie.spec
     invariant-loop
     decreases-loop
-    triangle-requires
+    triangle-t-requires
     (λ c. omega arith)
-    loop-holds
+    loop-k-init
     (λ c. omega arith)
     (λ c. omega arith)
     (λ c. omega arith)
@@ -54,6 +53,6 @@ four-sums-spec =
     (λ c. omega (arith, in_turn c.before))
     (λ c κs. omega (arith, in_turn c.before))
     (λ c. omega arith)
-    (λ c. less c.before.before.loop-test.true)
-    loop-again
-    (λ c. all_four_summed c.before.before.before.before.before.loop.invariant c.before.before.before.before.loop-test.false zero_bits))
+    (λ c. less c.loop-k-test.true)
+    loop-k-preserved
+    (λ c. all_four_summed c.loop-k.invariant c.loop-k-test.false zero_bits))

@@ -10,10 +10,10 @@ use Rattle.first_pass.proofs.Terms.{Summing, summing, summed, all_summed}
 use Rattle.first_pass.proofs.sums.one_sum.Statement.{statement}
 use Rattle.first_pass.proofs.sums.one_sum.Tie as tie
 
-abbrev invariant-loop : tie.invariant-loop
+abbrev invariant-loop : tie.invariant-loop-k
 invariant-loop n i j l inv row sum₀ k₀ sum k = Summing binary32 n l inv i j sum k
 
-abbrev decreases-loop : tie.decreases-loop
+abbrev decreases-loop : tie.decreases-loop-k
 decreases-loop n i j l inv row sum₀ k₀ sum k = i - k
 
 -- row j lies in the buffer
@@ -21,17 +21,17 @@ in_first : (c : tie.Start invariant-loop decreases-loop) → let m = c.args in m
 in_first c = let m = c.args in omega (arith, row_in m.i m.n m.j c.requires.0)
 
 -- so does row k
-in_turn : (c : tie.In-loop invariant-loop decreases-loop) → let m = c.before.before.before.before.args in c.before.loop.k * m.n + m.n ≤ length m.inv.now
-in_turn c = let m = c.before.before.before.before.args in omega (arith, row_in m.i m.n c.before.loop.k c.loop-test.true)
+in_turn : (c : tie.In-loop-k invariant-loop decreases-loop) → let m = c.args in c.loop-k.k * m.n + m.n ≤ length m.inv.now
+in_turn c = let m = c.args in omega (arith, row_in m.i m.n c.loop-k.k c.loop-k-test.true)
 
-loop-holds : tie.Need-loop-init invariant-loop decreases-loop
-loop-holds c = summing c.before.before.requires.0 refl refl refl
+loop-k-init : tie.Need-loop-k-init invariant-loop decreases-loop
+loop-k-init c = summing c.requires.0 refl refl refl
 
-loop-again : tie.Need-loop-preserved invariant-loop decreases-loop
-loop-again c = summed c.before.before.before.loop.invariant c.before.before.loop-test.true refl refl refl refl
+loop-k-preserved : tie.Need-loop-k-preserved invariant-loop decreases-loop
+loop-k-preserved c = summed c.loop-k.invariant c.loop-k-test.true refl refl refl refl
 
-pub one-sum-spec : {M : Type 1} → statement M
-one-sum-spec =
+pub one_sum_spec : {M : Type 1} → statement M
+one_sum_spec =
     tie.close
     (tie.spec
     invariant-loop
@@ -45,7 +45,7 @@ one-sum-spec =
     (λ c. omega (arith, in_first c.before))
     (λ c. omega (arith, in_first c.before.before))
     (λ c. omega arith)
-    loop-holds
+    loop-k-init
     (λ c. omega arith)
     (λ c. omega arith)
     (λ c. omega arith)
@@ -55,5 +55,5 @@ one-sum-spec =
     (λ c. omega (arith, in_turn c.before.before))
     (λ c. omega arith)
     (λ c. omega arith)
-    loop-again
-    (λ c. all_summed c.before.loop.invariant c.loop-test.false zero_bits))
+    loop-k-preserved
+    (λ c. all_summed c.loop-k.invariant c.loop-k-test.false zero_bits))

@@ -7,13 +7,12 @@ use Rattle.first_pass.proofs.sums.triangle.Tie as tie
 
 returns : tie.Need-returns
 returns c =
-    let top = c.before.before.before.before.before.before.before.before.before.before.before.before.before.before in
-    let m = top.args in
-    let t = triangle_sums binary32 m.n m.l.now m.inv.now m.i m.j top.requires.0 in
+    let m = c.args in
+    let t = triangle_sums binary32 m.n m.l.now m.inv.now m.i m.j c.requires.0 in
     (t.0, t.1, t.2, t.3)
 
-pub triangle-spec : {M : Type 1} → statement M
-triangle-spec =
+pub triangle_spec : {M : Type 1} → statement M
+triangle_spec =
     tie.close
     (tie.spec
     (λ c. omega arith)

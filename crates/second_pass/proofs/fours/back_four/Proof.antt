@@ -9,31 +9,31 @@ use Rattle.second_pass.proofs.RowSums.{FourSums, rows_in, four-none, four_begun,
 use Rattle.second_pass.proofs.fours.back_four.Statement.{statement}
 use Rattle.second_pass.proofs.fours.back_four.Tie as tie
 
-abbrev invariant-loop : tie.invariant-loop
+abbrev invariant-loop : tie.invariant-loop-k
 invariant-loop n i c l inv start p t₀ k₀ t k = FourSums binary32 n l inv i c t.t0 t.t1 t.t2 t.t3 k
 
-abbrev decreases-loop : tie.decreases-loop
+abbrev decreases-loop : tie.decreases-loop-k
 decreases-loop n i c l inv start p t₀ k₀ t k = n - k
 
 -- the row after i lies within the matrix
-next_in : (c : tie.Else1 invariant-loop decreases-loop) → let m = c.before.before.before.before.args in m.i * m.n + 2 * m.n ≤ m.n * m.n
-next_in c = let m = c.before.before.before.before.args in rows_in m.n m.i 2 (omega arith)
+next_in : (c : tie.Else-i-n invariant-loop decreases-loop) → let m = c.args in m.i * m.n + 2 * m.n ≤ m.n * m.n
+next_in c = let m = c.args in rows_in m.n m.i 2 (omega arith)
 
 -- so does row k
-in_b : (c : tie.In-loop invariant-loop decreases-loop) → let m = c.before.before.before.before.before.before.before.before.args in c.before.loop.k * m.n + m.n ≤ m.n * m.n
-in_b c = let m = c.before.before.before.before.before.before.before.before.args in row_in m.n m.n c.before.loop.k (omega arith)
+in_b : (c : tie.In-loop-k invariant-loop decreases-loop) → let m = c.args in c.loop-k.k * m.n + m.n ≤ m.n * m.n
+in_b c = let m = c.args in row_in m.n m.n c.loop-k.k (omega arith)
+
+returns-then-i-n : tie.Need-returns-then-i-n invariant-loop decreases-loop
+returns-then-i-n c = let m = c.args in four-none binary32 m.n (cell m.n m.l.now) m.inv.now m.i m.c c.if-i-n.true c.read-start.ensures
+
+loop-k-preserved : tie.Need-loop-k-preserved invariant-loop decreases-loop
+loop-k-preserved c = four_more c.loop-k.invariant (omega arith) c.more-t.ensures refl refl
 
 returns : tie.Need-returns invariant-loop decreases-loop
-returns c = let m = c.before.before.before.before.args in four-none binary32 m.n (cell m.n m.l.now) m.inv.now m.i m.c c.if1.true c.before.read.ensures
+returns c = four_all c.loop-k.invariant (omega arith) c.plus.ensures c.read-start.ensures refl
 
-loop-again : tie.Need-loop-preserved invariant-loop decreases-loop
-loop-again c = four_more c.before.before.before.loop.invariant (omega arith) c.more.ensures refl refl
-
-returns-2 : tie.Need-returns-2 invariant-loop decreases-loop
-returns-2 c = four_all c.before.before.loop.invariant (omega arith) c.plus.ensures c.before.before.before.before.before.before.read.ensures refl
-
-pub back-four-spec : {M : Type 1} → statement M
-back-four-spec =
+pub back_four_spec : {M : Type 1} → statement M
+back_four_spec =
     tie.close
     (tie.spec
     invariant-loop
@@ -42,7 +42,7 @@ back-four-spec =
     (λ c. omega arith)
     (λ c κs. omega arith)
     (λ c. omega arith)
-    returns
+    returns-then-i-n
     (λ c. omega arith)
     (λ c. omega arith)
     (λ c. omega arith)
@@ -51,7 +51,7 @@ back-four-spec =
     (λ c. omega arith)
     (λ c κs. omega (arith, next_in c.before))
     (λ c. omega arith)
-    (λ c. four_begun (omega arith) c.times.ensures refl refl)
+    (λ c. four_begun (omega arith) c.times-t.ensures refl refl)
     (λ c. omega (arith, in_b c))
     (λ c. omega (arith, in_b c))
     (λ c. omega (arith, in_b c))
@@ -61,6 +61,6 @@ back-four-spec =
     (λ c κs. omega (arith, in_b c.before))
     (λ c. omega arith)
     (λ c. omega arith)
-    loop-again
+    loop-k-preserved
     (λ c κs. omega arith)
-    returns-2)
+    returns)

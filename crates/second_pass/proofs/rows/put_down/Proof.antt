@@ -5,8 +5,8 @@ use lib.ListN.{length-set}
 use Rattle.second_pass.proofs.rows.put_down.Statement.{statement}
 use Rattle.second_pass.proofs.rows.put_down.Tie as tie
 
-pub put-down-spec : {M : Type 1} → statement M
-put-down-spec =
+pub put_down_spec : {M : Type 1} → statement M
+put_down_spec =
     tie.close
     (tie.spec
     (λ c. omega arith)

@@ -9,29 +9,28 @@ use Rattle.grids.proofs.Turns.{Rows, no_rows, row_more, all_rows}
 use Rattle.times_matrix.proofs.wide.four_columns.Statement.{statement}
 use Rattle.times_matrix.proofs.wide.four_columns.Tie as tie
 
-abbrev invariant-loop : tie.invariant-loop
+abbrev invariant-loop : tie.invariant-loop-r
 invariant-loop rows inner cols a b c₀ r₀ c r = Rows rows cols (product binary32 inner cols a b) c₀ c r
 
-abbrev decreases-loop : tie.decreases-loop
+abbrev decreases-loop : tie.decreases-loop-r
 decreases-loop rows inner cols a b c₀ r₀ c r = rows - r
 
-row-of-one-requires : tie.Need-row-of-one-requires invariant-loop decreases-loop
-row-of-one-requires c κs =
-    let top = c.before.before in
-    let m = top.before.before.before.before.args in
-    let in_turn = c.before.loop-test.true in
-    omega (arith, row_in m.rows m.inner top.loop.r in_turn, row_in m.rows m.cols top.loop.r in_turn)
+row_of_one-requires : tie.Need-row_of_one-requires invariant-loop decreases-loop
+row_of_one-requires c κs =
+    let m = c.args in
+    let in_turn = c.loop-r-test.true in
+    omega (arith, row_in m.rows m.inner c.loop-r.r in_turn, row_in m.rows m.cols c.loop-r.r in_turn)
 
-pub four-columns-spec : {M : Type 1} → statement M
-four-columns-spec =
+pub four_columns_spec : {M : Type 1} → statement M
+four_columns_spec =
     tie.close
     (tie.spec
     invariant-loop
     decreases-loop
     (λ c. no_rows)
-    row-of-one-requires
+    row_of_one-requires
     (λ c. omega arith)
     (λ c. omega arith)
-    (λ c. row_more c.before.before.before.before.before.loop.invariant c.before.before.before.before.loop-test.true c.before.before.row-of-one.ensures (λ j. refl))
-    (λ c. c.before.loop.invariant.size)
-    (λ c. all_rows c.before.loop.invariant c.loop-test.false))
+    (λ c. row_more c.loop-r.invariant c.loop-r-test.true c.row_of_one.ensures (λ j. refl))
+    (λ c. c.loop-r.invariant.size)
+    (λ c. all_rows c.loop-r.invariant c.loop-r-test.false))

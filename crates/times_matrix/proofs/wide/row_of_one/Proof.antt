@@ -11,8 +11,8 @@ use Rattle.times_matrix.proofs.wide.row_of_one.Tie as tie
 
 returns : tie.Need-returns
 returns c =
-    let m = c.before.before.before.before.before.before.before.before.args in
-    last_four {at = m.r * m.cols} {g = product binary32 m.inner m.cols m.a.now m.b.now m.r} {last = 0} begun (omega arith) (omega arith) (omega arith) c.before.before.before.one_Chunk.ensures c.before.before.put.ensures
+    let m = c.args in
+    last_four {at = m.r * m.cols} {g = product binary32 m.inner m.cols m.a.now m.b.now m.r} {last = 0} begun (omega arith) (omega arith) (omega arith) c.one_chunk.ensures c.put.ensures
 
-pub row-of-one-spec : {M : Type 1} → statement M
-row-of-one-spec = tie.close (tie.spec (λ c. search rules) (λ c κs. search rules) (λ c κs. search rules) (λ c. search rules) returns)
+pub row_of_one_spec : {M : Type 1} → statement M
+row_of_one_spec = tie.close (tie.spec (λ c. search rules) (λ c κs. search rules) (λ c κs. search rules) (λ c. search rules) returns)

@@ -13,16 +13,16 @@ use Rattle.times_matrix.proofs.wide.row_of_three.Tie as tie
 
 returns : tie.Need-returns
 returns c =
-    let m = c.before.before.before.before.before.before.before.before.before.before.before.before.before.before.before.before.args in
-    let t = c.before.before.before.before.before.before.before.before.before.before.before.before.three-chunks.ensures in
+    let m = c.args in
+    let t = c.three_chunks-t.ensures in
     let at = m.r * m.cols in
     let g = product binary32 m.inner m.cols m.a.now m.b.now m.r in
-    let w4 : Writing at m.cols g m.c.now _ 4 = four_more {j = 0} begun (omega arith) (omega arith) t.0 c.before.before.before.before.before.before.before.before.before.before.put.ensures in
-    let w8 : Writing at m.cols g m.c.now _ 8 = four_more {j = 4} w4 (omega arith) refl t.1 c.before.before.before.before.before.before.put2.ensures in
-    last_four w8 (omega arith) (omega arith) refl t.2 c.before.before.put3.ensures
+    let w4 : Writing at m.cols g m.c.now _ 4 = four_more {j = 0} begun (omega arith) (omega arith) t.0 c.put.ensures in
+    let w8 : Writing at m.cols g m.c.now _ 8 = four_more {j = 4} w4 (omega arith) refl t.1 c.put-2.ensures in
+    last_four w8 (omega arith) (omega arith) refl t.2 c.put-3.ensures
 
-pub row-of-three-spec : {M : Type 1} → statement M
-row-of-three-spec =
+pub row_of_three_spec : {M : Type 1} → statement M
+row_of_three_spec =
     tie.close
     (tie.spec
     (λ c. search rules)
@@ -31,7 +31,7 @@ row-of-three-spec =
     (λ c κs. search rules)
     (λ c. search rules)
     (λ c κs. search rules)
-    (λ c. let top = c.before.before.before.before.before.before.before.before.before.before.before.before.before in omega arith)
+    (λ c. omega arith)
     (λ c κs. search rules)
     (λ c. search rules)
     returns)

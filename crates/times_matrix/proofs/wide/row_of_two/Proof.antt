@@ -13,15 +13,15 @@ use Rattle.times_matrix.proofs.wide.row_of_two.Tie as tie
 
 returns : tie.Need-returns
 returns c =
-    let m = c.before.before.before.before.before.before.before.before.before.before.before.before.args in
-    let t = c.before.before.before.before.before.before.before.before.two-chunks.ensures in
+    let m = c.args in
+    let t = c.two_chunks-t.ensures in
     let at = m.r * m.cols in
     let g = product binary32 m.inner m.cols m.a.now m.b.now m.r in
-    let w4 : Writing at m.cols g m.c.now _ 4 = four_more {j = 0} begun (omega arith) (omega arith) t.0 c.before.before.before.before.before.before.put.ensures in
-    last_four w4 (omega arith) (omega arith) refl t.1 c.before.before.put2.ensures
+    let w4 : Writing at m.cols g m.c.now _ 4 = four_more {j = 0} begun (omega arith) (omega arith) t.0 c.put.ensures in
+    last_four w4 (omega arith) (omega arith) refl t.1 c.put-2.ensures
 
-pub row-of-two-spec : {M : Type 1} → statement M
-row-of-two-spec =
+pub row_of_two_spec : {M : Type 1} → statement M
+row_of_two_spec =
     tie.close
     (tie.spec
     (λ c. search rules)
