@@ -31,19 +31,19 @@ loop-j-init : tie.Need-loop-j-init invariant-loop decreases-loop
 loop-j-init c = let m = c.args in (omega arith, omega arith, refl, below_start binary32 m.n m.t.now m.i m.d (omega arith) (omega arith))
 
 rest_at-sum-requires : tie.Need-rest_at-sum-requires invariant-loop decreases-loop
-rest_at-sum-requires c κs = omega (arith, in_t c.before)
+rest_at-sum-requires c κs = omega (arith, in_t c)
 
 overflow_mul-t : tie.Need-overflow_mul-t invariant-loop decreases-loop
-overflow_mul-t c = omega (arith, in_t c.before.before)
+overflow_mul-t c = omega (arith, in_t c.before)
 
 overflow_add-t : tie.Need-overflow_add-t invariant-loop decreases-loop
-overflow_add-t c = omega (arith, in_t c.before.before)
+overflow_add-t c = omega (arith, in_t c.before)
 
 offset_bounds-t-j : tie.Need-offset_bounds-t-j invariant-loop decreases-loop
-offset_bounds-t-j c = omega (arith, in_t c.before.before)
+offset_bounds-t-j c = omega (arith, in_t c.before)
 
 bounds-t-j : tie.Need-bounds-t-j invariant-loop decreases-loop
-bounds-t-j c = omega (arith, in_t c.before.before)
+bounds-t-j c = omega (arith, in_t c.before)
 
 overflow_add-j-in-loop-j : tie.Need-overflow_add-j-in-loop-j invariant-loop decreases-loop
 overflow_add-j-in-loop-j c = omega arith

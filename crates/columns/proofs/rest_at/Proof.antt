@@ -26,10 +26,10 @@ offset_bounds-t-p-2 c = search rules
 slice_bounds-less_dot-count : tie.Need-slice_bounds-less_dot-count
 slice_bounds-less_dot-count c = search rules
 
-slice-bounds-less-dot-start : tie.Need-slice-bounds-less-dot-start
+slice-bounds-less-dot-start : tie.Need-slice_bounds-less_dot-start
 slice-bounds-less-dot-start c = search rules
 
-slice-bounds-less-dot-end : tie.Need-slice-bounds-less-dot-end
+slice-bounds-less-dot-end : tie.Need-slice_bounds-less_dot-end
 slice-bounds-less-dot-end c = search rules
 
 offset_bounds-t-q : tie.Need-offset_bounds-t-q
@@ -38,10 +38,10 @@ offset_bounds-t-q c = search rules
 slice_bounds-less_dot-count-2 : tie.Need-slice_bounds-less_dot-count-2
 slice_bounds-less_dot-count-2 c = search rules
 
-slice-bounds-less-dot-start-2 : tie.Need-slice-bounds-less-dot-start-2
+slice-bounds-less-dot-start-2 : tie.Need-slice_bounds-less_dot-start-2
 slice-bounds-less-dot-start-2 c = search rules
 
-slice-bounds-less-dot-end-2 : tie.Need-slice-bounds-less-dot-end-2
+slice-bounds-less-dot-end-2 : tie.Need-slice_bounds-less_dot-end-2
 slice-bounds-less-dot-end-2 c = search rules
 
 less_dot-requires : tie.Need-less_dot-requires

@@ -8,19 +8,19 @@ use Rattle.four_renewals.proofs.Finished.{finished}
 use Rattle.four_renewals.proofs.finish.Statement.{statement}
 use Rattle.four_renewals.proofs.finish.Tie as tie
 
+returns-then-is_fine : tie.Need-returns-then-is_fine
+unfolding run
+returns-then-is_fine c =
+    finished _ _ _ _ _ _ _ _ _ c.gain_of-gain.ensures c.spread_of-t.ensures c.lessen-n.ensures c.move_by-w.ensures
+    Done _ _ (ap (λ (t : Bool). cond t Done NotFinite) (sym c.if-is_fine.true ∙ c.is_fine.ensures))
+    c.put.ensures c.put_eight.ensures c.put_eight-2.ensures c.put_sixteen.ensures c.put-then-is_fine.ensures c.put_sixteen-then-is_fine.ensures
+
 returns : tie.Need-returns
 unfolding run
 returns c =
-    finished _ _ _ _ _ _ _ _ _ c.before.before.before.before.before.before.before.before.before.before.before.before.before.before.before.before.before.before.before.before.before.before.before.before.before.before.before.before.before.gain-of.ensures c.before.before.before.before.before.before.before.before.before.before.before.before.before.before.before.before.before.before.before.before.before.before.before.before.before.before.before.before.spread-of.ensures c.before.before.before.before.before.before.before.before.before.before.before.before.before.before.before.before.before.before.before.before.before.before.before.before.before.before.before.lessen.ensures c.before.before.before.before.before.before.before.before.before.before.before.before.before.before.before.before.before.before.before.before.before.before.before.before.before.before.move-by.ensures
-    Done _ _ (ap (λ (t : Bool). cond t Done NotFinite) (sym c.before.before.before.before.before.before.before.before.if1.true ∙ c.before.before.before.before.before.before.before.before.before.is-fine.ensures))
-    c.before.before.before.before.before.before.before.before.before.before.before.before.before.before.before.before.before.before.before.before.before.before.before.before.put.ensures c.before.before.before.before.before.before.before.before.before.before.before.before.before.before.before.before.before.before.before.before.put-eight.ensures c.before.before.before.before.before.before.before.before.before.before.before.before.before.before.before.before.put-eight2.ensures c.before.before.before.before.before.before.before.before.before.before.before.before.put-sixteen.ensures c.before.before.before.before.before.before.put2.ensures c.before.before.put-sixteen2.ensures
-
-returns-2 : tie.Need-returns-2
-unfolding run
-returns-2 c =
-    finished _ _ _ _ _ _ _ _ _ c.before.before.before.before.before.before.before.before.before.before.before.before.before.before.before.before.before.before.before.before.before.gain-of.ensures c.before.before.before.before.before.before.before.before.before.before.before.before.before.before.before.before.before.before.before.before.spread-of.ensures c.before.before.before.before.before.before.before.before.before.before.before.before.before.before.before.before.before.before.before.lessen.ensures c.before.before.before.before.before.before.before.before.before.before.before.before.before.before.before.before.before.before.move-by.ensures
-    NotFinite _ _ (ap (λ (t : Bool). cond t Done NotFinite) (sym c.if1.false ∙ c.before.is-fine.ensures))
-    c.before.before.before.before.before.before.before.before.before.before.before.before.before.before.before.before.put.ensures c.before.before.before.before.before.before.before.before.before.before.before.before.put-eight.ensures c.before.before.before.before.before.before.before.before.put-eight2.ensures c.before.before.before.before.put-sixteen.ensures refl refl
+    finished _ _ _ _ _ _ _ _ _ c.gain_of-gain.ensures c.spread_of-t.ensures c.lessen-n.ensures c.move_by-w.ensures
+    NotFinite _ _ (ap (λ (t : Bool). cond t Done NotFinite) (sym c.if-is_fine.false ∙ c.is_fine.ensures))
+    c.put.ensures c.put_eight.ensures c.put_eight-2.ensures c.put_sixteen.ensures refl refl
 
 pub finish_spec : {M : Type 1} → statement M
 finish_spec =
@@ -30,22 +30,22 @@ finish_spec =
     (λ c κs. tt)
     (λ c κs. tt)
     (λ c κs. tt)
-    (λ c κs. c.before.before.before.before.before.before.before.before.before.before.before.requires.3)
-    (λ c κs. c.before.before.before.before.before.before.before.before.before.before.before.before.before.before.before.requires.4)
-    (λ c κs. c.before.before.before.before.before.before.before.before.before.before.before.before.before.before.before.before.before.before.before.requires.2)
-    (λ c κs. c.before.before.before.before.before.before.before.before.before.before.before.before.before.before.before.before.before.before.before.before.before.before.before.requires.5)
+    (λ c κs. c.requires.3)
+    (λ c κs. c.requires.4)
+    (λ c κs. c.requires.2)
+    (λ c κs. c.requires.5)
     (λ c κs. tt)
-    (λ c κs. c.before.before.before.before.before.before.before.before.before.before.before.before.before.before.before.before.before.before.before.before.before.before.before.before.before.before.before.before.before.requires.0)
-    (λ c κs. c.before.before.before.before.before.before.before.before.before.before.before.before.before.before.before.before.before.before.before.before.before.before.before.before.before.before.before.before.before.before.before.before.before.requires.1)
-    (λ c. omega (arith, c.before.before.before.before.before.before.put2.auto))
-    (λ c. omega (arith, c.before.before.put-sixteen2.auto))
-    (λ c. omega (arith, c.before.before.before.before.before.before.before.before.before.before.before.before.before.before.before.before.put-eight2.auto))
-    (λ c. omega (arith, c.before.before.before.before.before.before.before.before.before.before.before.before.before.before.before.before.before.before.before.before.before.before.before.before.put.auto))
-    (λ c. omega (arith, c.before.before.before.before.before.before.before.before.before.before.before.before.before.before.before.before.before.before.before.before.put-eight.auto))
-    (λ c. omega (arith, c.before.before.before.before.before.before.before.before.before.before.before.before.put-sixteen.auto))
-    returns
-    (λ c. omega (arith, c.before.before.before.before.before.before.before.before.put-eight2.auto))
-    (λ c. omega (arith, c.before.before.before.before.before.before.before.before.before.before.before.before.before.before.before.before.put.auto))
-    (λ c. omega (arith, c.before.before.before.before.before.before.before.before.before.before.before.before.put-eight.auto))
-    (λ c. omega (arith, c.before.before.before.before.put-sixteen.auto))
-    returns-2)
+    (λ c κs. c.requires.0)
+    (λ c κs. c.requires.1)
+    (λ c. omega (arith, c.put-then-is_fine.auto))
+    (λ c. omega (arith, c.put_sixteen-then-is_fine.auto))
+    (λ c. omega (arith, c.put_eight-2.auto))
+    (λ c. omega (arith, c.put.auto))
+    (λ c. omega (arith, c.put_eight.auto))
+    (λ c. omega (arith, c.put_sixteen.auto))
+    returns-then-is_fine
+    (λ c. omega (arith, c.put_eight-2.auto))
+    (λ c. omega (arith, c.put.auto))
+    (λ c. omega (arith, c.put_eight.auto))
+    (λ c. omega (arith, c.put_sixteen.auto))
+    returns)

@@ -5,12 +5,12 @@ use Rattle.four_stages.proofs.Stages.{both, not_first}
 use Rattle.four_stages.proofs.also.Statement.{statement}
 use Rattle.four_stages.proofs.also.Tie as tie
 
-returns : tie.Need-returns
+returns-then-so_far : tie.Need-returns-then-so_far
 unfolding every
-returns c = both _ _ _ c.before.if1.true c.four.ensures
+returns-then-so_far c = both _ _ _ c.if-so_far.true c.four.ensures
 
-returns-2 : tie.Need-returns-2
-returns-2 c = c.if1.false ∙ not_first _ _ c.if1.false
+returns-else-so_far : tie.Need-returns-else-so_far
+returns-else-so_far c = c.if-so_far.false ∙ not_first _ _ c.if-so_far.false
 
-pub also-spec : {M : Type 1} → statement M
-also-spec = tie.close (tie.spec (λ c κs. tt) returns returns-2)
+pub also_spec : {M : Type 1} → statement M
+also_spec = tie.close (tie.spec (λ c κs. tt) returns-then-so_far returns-else-so_far)

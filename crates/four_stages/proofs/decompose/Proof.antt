@@ -6,34 +6,34 @@ use Rattle.four_stages.proofs.Roots.{first_refused, second_refused, both_taken}
 use Rattle.four_stages.proofs.decompose.Statement.{statement}
 use Rattle.four_stages.proofs.decompose.Tie as tie
 
+returns-then-not-taken : tie.Need-returns-then-not-taken
+unfolding of_bits
+returns-then-not-taken c = first_refused _ _ _ (sym c.taken.ensures ∙ not-true _ c.if-not-taken.true-raw)
+
+returns-then-not-taken-2 : tie.Need-returns-then-not-taken-2
+unfolding of_bits
+returns-then-not-taken-2 c =
+    second_refused _ _ _ _ c.square_root-l00.ensures c.recip-d0.ensures
+    (sym c.taken.ensures ∙ not-false _ c.if-not-taken.false-raw)
+    (sym c.taken-2.ensures ∙ not-true _ c.if-not-taken-2.true-raw)
+
 returns : tie.Need-returns
 unfolding of_bits
-returns c = first_refused _ _ _ (sym c.before.before.taken.ensures ∙ not-true _ c.before.if1.true)
+returns c =
+    both_taken _ _ _ _ _ c.square_root-l00.ensures c.recip-d0.ensures c.square_root-l11.ensures c.recip-d1.ensures
+    (sym c.taken.ensures ∙ not-false _ c.if-not-taken.false-raw)
+    (sym c.taken-2.ensures ∙ not-false _ c.if-not-taken-2.false-raw)
 
-returns-2 : tie.Need-returns-2
-unfolding of_bits
-returns-2 c =
-    second_refused _ _ _ _ c.before.before.before.before.before.square-root.ensures c.before.before.before.before.recip.ensures
-    (sym c.before.before.before.before.before.before.before.taken.ensures ∙ not-false _ c.before.before.before.before.before.before.if1.false)
-    (sym c.before.taken2.ensures ∙ not-true _ c.if2.true)
-
-returns-3 : tie.Need-returns-3
-unfolding of_bits
-returns-3 c =
-    both_taken _ _ _ _ _ c.before.before.before.before.before.before.before.square-root.ensures c.before.before.before.before.before.before.recip.ensures c.before.square-root2.ensures c.recip2.ensures
-    (sym c.before.before.before.before.before.before.before.before.before.taken.ensures ∙ not-false _ c.before.before.before.before.before.before.before.before.if1.false)
-    (sym c.before.before.before.taken2.ensures ∙ not-false _ c.before.before.if2.false)
-
-pub decompose-spec : {M : Type 1} → statement M
-decompose-spec =
+pub decompose_spec : {M : Type 1} → statement M
+decompose_spec =
     tie.close
     (tie.spec
     (λ c κs. tt)
-    returns
+    returns-then-not-taken
     (λ c κs. tt)
     (λ c κs. tt)
     (λ c κs. tt)
-    returns-2
+    returns-then-not-taken-2
     (λ c κs. tt)
     (λ c κs. tt)
-    returns-3)
+    returns)

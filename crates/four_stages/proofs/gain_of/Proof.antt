@@ -8,13 +8,13 @@ use Rattle.four_stages.proofs.gain_of.Tie as tie
 returns : tie.Need-returns
 unfolding rows_across square_times crossed gained
 returns c = (
-  c.before.before.before.before.invert.ensures,
-  eight_is c.before.before.before.rows-across.ensures c.before.before.rows-across2.ensures,
-  eight_is c.before.square-times.ensures c.square-times2.ensures,
+  c.invert-i.ensures,
+  eight_is c.rows_across-f0.ensures c.rows_across-f1.ensures,
+  eight_is c.square_times.ensures c.square_times-2.ensures,
 )
 
-pub gain-of-spec : {M : Type 1} → statement M
-gain-of-spec =
+pub gain_of_spec : {M : Type 1} → statement M
+gain_of_spec =
     tie.close
     (tie.spec
     (λ c κs. tt)

@@ -9,5 +9,5 @@ returns : tie.Need-returns
 unfolding inverted of_bits
 returns c = refl
 
-pub invert-spec : {M : Type 1} → statement M
-invert-spec = tie.close (tie.spec returns)
+pub invert_spec : {M : Type 1} → statement M
+invert_spec = tie.close (tie.spec returns)

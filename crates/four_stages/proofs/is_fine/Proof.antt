@@ -10,22 +10,22 @@ use Rattle.four_stages.proofs.is_fine.Statement.{statement}
 use Rattle.four_stages.proofs.is_fine.Tie as tie
 
 -- the rows
-rows : (c : tie.After-also4) → c.also4.result ≡ entries_finite 4 (in_large c.before.before.before.before.args.n)
+rows : (c : tie.After-also-rows) → c.also-rows.result ≡ entries_finite 4 (in_large c.args.n)
 unfolding every
 rows c =
-    let so_far : Bool → ℕ → Bool = λ t r. t && all_finite 4 (in_large c.before.before.before.before.args.n r) in
-    c.also4.ensures ∙ ap (λ (t : Bool). so_far t 3) (c.before.also3.ensures ∙ ap (λ (t : Bool). so_far t 2) (c.before.before.also2.ensures ∙ ap (λ (t : Bool). so_far t 1) c.before.before.before.also.ensures))
+    let so_far : Bool → ℕ → Bool = λ t r. t && all_finite 4 (in_large c.args.n r) in
+    c.also-rows.ensures ∙ ap (λ (t : Bool). so_far t 3) (c.also-3.ensures ∙ ap (λ (t : Bool). so_far t 2) (c.also-2.ensures ∙ ap (λ (t : Bool). so_far t 1) c.also.ensures))
 
-returns : tie.Need-returns
+returns-then-also : tie.Need-returns-then-also
 unfolding fine
-returns c = both _ _ _ (sym c.before.also5.ensures ∙ c.if1.true) (rows c.before.before)
+returns-then-also c = both _ _ _ (sym c.also-4.ensures ∙ c.if-also.true) (rows c.before.before)
 
-returns-2 : tie.Need-returns-2
+returns-else-also : tie.Need-returns-else-also
 unfolding fine
-returns-2 c = c.if1.false ∙ not_first _ _ (sym c.before.also5.ensures ∙ c.if1.false)
+returns-else-also c = c.if-also.false ∙ not_first _ _ (sym c.also-4.ensures ∙ c.if-also.false)
 
-pub is-fine-spec : {M : Type 1} → statement M
-is-fine-spec =
+pub is_fine_spec : {M : Type 1} → statement M
+is_fine_spec =
     tie.close
     (tie.spec
     (λ c κs. tt)
@@ -33,5 +33,5 @@ is-fine-spec =
     (λ c κs. tt)
     (λ c κs. tt)
     (λ c κs. tt)
-    returns
-    returns-2)
+    returns-then-also
+    returns-else-also)

@@ -7,7 +7,7 @@ use Rattle.four_stages.proofs.lessen.Tie as tie
 
 returns : tie.Need-returns
 unfolding differences lessened
-returns c = sixteen_is c.before.before.before.minus.ensures c.before.before.minus2.ensures c.before.minus3.ensures c.minus4.ensures
+returns c = sixteen_is c.minus.ensures c.minus-2.ensures c.minus-3.ensures c.minus-4.ensures
 
-pub lessen-spec : {M : Type 1} → statement M
-lessen-spec = tie.close (tie.spec (λ c κs. tt) (λ c κs. tt) (λ c κs. tt) (λ c κs. tt) returns)
+pub lessen_spec : {M : Type 1} → statement M
+lessen_spec = tie.close (tie.spec (λ c κs. tt) (λ c κs. tt) (λ c κs. tt) (λ c κs. tt) returns)

@@ -9,5 +9,5 @@ returns : tie.Need-returns
 unfolding moved sum_from
 returns c = refl
 
-pub move-by-spec : {M : Type 1} → statement M
-move-by-spec = tie.close (tie.spec returns)
+pub move_by_spec : {M : Type 1} → statement M
+move_by_spec = tie.close (tie.spec returns)

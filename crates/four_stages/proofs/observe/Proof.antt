@@ -11,14 +11,14 @@ use Rattle.four_stages.proofs.observe.Tie as tie
 returns : tie.Need-returns
 unfolding row_times rows_across row_dot innovation projected residual
 returns c = record {
-  y0_is = ap (sub binary32 c.before.before.before.before.before.before.before.before.before.before.before.before.before.before.before.args.b.z0) c.before.before.before.before.before.before.before.before.before.before.before.row_on.ensures;
-  y1_is = ap (sub binary32 c.before.before.before.before.before.before.before.before.before.before.before.before.before.before.before.args.b.z1) c.before.before.before.before.before.before.before.before.before.row-on2.ensures;
-  g_is = eight_is c.before.before.before.before.before.before.before.before.before.before.before.before.before.before.row-times.ensures c.before.before.before.before.before.before.before.before.before.before.before.before.before.row-times2.ensures;
-  s_is = ap (λ (q : Four). sums q c.before.before.before.before.before.before.before.before.before.before.before.before.before.before.before.args.b.r) c.before.before.before.before.before.before.before.before.before.before.before.before.rows-across.ensures;
+  y0_is = ap (sub binary32 c.args.b.z0) c.row_on.ensures;
+  y1_is = ap (sub binary32 c.args.b.z1) c.row_on-2.ensures;
+  g_is = eight_is c.row_times-g0.ensures c.row_times-g1.ensures;
+  s_is = ap (λ (q : Four). sums q c.args.b.r) c.rows_across-s.ensures;
 }
 
-pub observe-spec : {M : Type 1} → statement M
-observe-spec =
+pub observe_spec : {M : Type 1} → statement M
+observe_spec =
     tie.close
     (tie.spec
     (λ c κs. tt)

@@ -11,26 +11,26 @@ use Rattle.four_stages.proofs.read_operands.Tie as tie
 returns : tie.Need-returns
 unfolding lent_in
 returns c =
-    let P = cell 4 c.before.before.before.before.before.before.before.before.before.before.before.before.before.before.before.args.p.now in
-    let H = cell 4 c.before.before.before.before.before.before.before.before.before.before.before.before.before.before.before.args.h.now in
+    let P = cell 4 c.args.p.now in
+    let H = cell 4 c.args.h.now in
     operands_are
-    (four_is _ (numbers c.before.before.before.before.before.before.before.before.before.before.before.before.before.before.before.args.x.now) c.before.before.before.before.before.before.before.before.before.read.ensures)
-    (sixteen_is (four_is _ (P 0) c.before.before.before.before.before.before.before.before.read2.ensures) (four_is _ (P 1) c.before.before.before.before.before.before.before.read3.ensures) (four_is _ (P 2) c.before.before.before.before.before.before.read4.ensures) (four_is _ (P 3) c.before.before.before.before.before.read5.ensures))
-    (eight_is (four_is _ (H 0) c.before.before.before.before.read6.ensures) (four_is _ (H 1) c.before.before.before.read7.ensures))
-    (four_is _ (numbers c.before.before.before.before.before.before.before.before.before.before.before.before.before.before.before.args.r.now) c.before.before.read8.ensures)
+    (four_is _ (numbers c.args.x.now) c.read.ensures)
+    (sixteen_is (four_is _ (P 0) c.read-2.ensures) (four_is _ (P 1) c.read-3.ensures) (four_is _ (P 2) c.read-4.ensures) (four_is _ (P 3) c.read-5.ensures))
+    (eight_is (four_is _ (H 0) c.read-6.ensures) (four_is _ (H 1) c.read-7.ensures))
+    (four_is _ (numbers c.args.r.now) c.read-8.ensures)
 
-pub read-operands-spec : {M : Type 1} → statement M
-read-operands-spec =
+pub read_operands_spec : {M : Type 1} → statement M
+read_operands_spec =
     tie.close
     (tie.spec
-    (λ c κs. omega (arith, c.before.before.before.before.before.requires.0))
-    (λ c κs. omega (arith, c.before.before.before.before.before.before.requires.1))
-    (λ c κs. omega (arith, c.before.before.before.before.before.before.before.requires.1))
-    (λ c κs. omega (arith, c.before.before.before.before.before.before.before.before.requires.1))
-    (λ c κs. omega (arith, c.before.before.before.before.before.before.before.before.before.requires.1))
-    (λ c κs. omega (arith, c.before.before.before.before.before.before.before.before.before.before.requires.2))
-    (λ c κs. omega (arith, c.before.before.before.before.before.before.before.before.before.before.before.requires.2))
-    (λ c κs. omega (arith, c.before.before.before.before.before.before.before.before.before.before.before.before.requires.4))
-    (λ c. omega (arith, c.before.before.before.before.before.before.before.before.before.before.before.before.before.before.requires.3))
-    (λ c. omega (arith, c.before.before.before.before.before.before.before.before.before.before.before.before.before.before.before.requires.3))
+    (λ c κs. omega (arith, c.requires.0))
+    (λ c κs. omega (arith, c.requires.1))
+    (λ c κs. omega (arith, c.requires.1))
+    (λ c κs. omega (arith, c.requires.1))
+    (λ c κs. omega (arith, c.requires.1))
+    (λ c κs. omega (arith, c.requires.2))
+    (λ c κs. omega (arith, c.requires.2))
+    (λ c κs. omega (arith, c.requires.4))
+    (λ c. omega (arith, c.requires.3))
+    (λ c. omega (arith, c.requires.3))
     returns)

@@ -7,7 +7,7 @@ use Rattle.four_stages.proofs.spread_of.Tie as tie
 
 returns : tie.Need-returns
 unfolding pair_times spread
-returns c = sixteen_is c.before.before.before.pair-times.ensures c.before.before.pair-times2.ensures c.before.pair-times3.ensures c.pair-times4.ensures
+returns c = sixteen_is c.pair_times.ensures c.pair_times-2.ensures c.pair_times-3.ensures c.pair_times-4.ensures
 
-pub spread-of-spec : {M : Type 1} → statement M
-spread-of-spec = tie.close (tie.spec (λ c κs. tt) (λ c κs. tt) (λ c κs. tt) (λ c κs. tt) returns)
+pub spread_of_spec : {M : Type 1} → statement M
+spread_of_spec = tie.close (tie.spec (λ c κs. tt) (λ c κs. tt) (λ c κs. tt) (λ c κs. tt) returns)

@@ -14,6 +14,7 @@ use Rattle.thin_products.specs.Thin.{strided}
 use Rattle.thin_products.proofs.Laws.{Offsets, offsets, columns_in, row_put}
 use Rattle.thin_products.proofs.Strides.{transpose_in, transpose_alike}
 use Rattle.thin_sums.proofs.plus_rows.Statement.{statement}
+use Rattle.thin_sums.proofs.plus_rows.Lts.{then-cols-ge2, else-cols-ge2, then-cols-ge3, else-cols-ge3}
 use Rattle.thin_sums.proofs.plus_rows.Tie as tie
 
 -- an entry's total with q's number added
@@ -30,7 +31,7 @@ decreases-loop rows inner cols a b q c₀ one two r₀ c r = rows - r
 apart : (c : tie.Joined-cols-ge3 invariant-loop decreases-loop) → let m = c.args in Offsets m.cols m.inner c.if-cols-ge2.one c.if-cols-ge3.two
 apart c =
     let given = c.requires in
-    offsets given.0 given.1 (⊎_elim (λ s. inl (s.0.taken, s.1)) (λ s. inr (s.0.left, s.1)) c.if-cols-ge2.branch) (⊎_elim (λ s. inl (s.0.taken, s.1)) (λ s. inr (s.0.left, s.1)) c.if-cols-ge3.branch)
+    offsets given.0 given.1 (elim c.if-cols-ge2.branch [ then-cols-ge2 w ↦ inl (w.if-cols-ge2.true, w.one-is) | else-cols-ge2 w ↦ inr (w.if-cols-ge2.false, w.one-is) ]) (elim c.if-cols-ge3.branch [ then-cols-ge3 w ↦ inl (w.if-cols-ge3.true, w.two-is) | else-cols-ge3 w ↦ inr (w.if-cols-ge3.false, w.two-is) ])
 
 -- row r lies in a, in q and in c
 in_a : (c : tie.In-loop-r invariant-loop decreases-loop) → let m = c.args in c.loop-r.r * m.inner + m.inner ≤ length m.a.now
@@ -59,7 +60,7 @@ loop-r-preserved : tie.Need-loop-r-preserved invariant-loop decreases-loop
 loop-r-preserved c =
     let m = c.args in
     let sums = c.three_totals in
-    row_put binary32 m.inner (cell m.inner m.a.now) m.b.now 1 (made m.cols m.q.now) sums.result c.loop-r.invariant c.loop-r-test.true c.requires.1 (apart c.before.before) sums.ensures c.put_sums.ensures
+    row_put binary32 m.inner (cell m.inner m.a.now) m.b.now 1 (made m.cols m.q.now) sums.result c.loop-r.invariant c.loop-r-test.true c.requires.1 (apart c.before.before.before.before.before.before.before) sums.ensures c.put_sums.ensures
 
 returns : tie.Need-returns invariant-loop decreases-loop
 returns c =

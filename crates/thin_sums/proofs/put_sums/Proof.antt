@@ -12,6 +12,7 @@ use Rattle.thin_products.specs.declared.Three.{Three}
 use Rattle.thin_products.specs.Thin.{number_at}
 use Rattle.thin_products.proofs.Laws as law
 use Rattle.thin_sums.proofs.put_sums.Statement.{statement}
+use Rattle.thin_sums.proofs.put_sums.Lts.{then-cols-ge2, else-cols-ge2}
 use Rattle.thin_sums.proofs.put_sums.Tie as tie
 
 -- the number for the cell at + j
@@ -26,15 +27,15 @@ first_at t q at = let e : at ≡ at + 0 = omega arith in ap (λ (i : ℕ). add b
 some_put : (c : tie.Joined-cols-ge2) → let m = c.args in Writing m.at m.cols (sum m.t m.q.now m.at) m.c.now c.if-cols-ge2.c (min m.cols 2)
 some_put c =
     let m = c.args in
-    law.some-put c.requires.0 (first_at m.t m.q.now m.at) refl
-    (⊎_elim (λ s. inl (s.0.taken, s.3)) (λ s. inr (s.0.left, s.1)) c.if-cols-ge2.branch)
+    law.some_put c.requires.0 (first_at m.t m.q.now m.at) refl
+    (elim c.if-cols-ge2.branch [ then-cols-ge2 w ↦ inl (w.if-cols-ge2.true, w.c-is) | else-cols-ge2 w ↦ inr (w.if-cols-ge2.false, w.c-is) ])
 
 -- and the third
 third_put :
     (c : tie.Then-cols-ge3) → let m = c.args in
     let g = sum m.t m.q.now m.at in
     Writing m.at m.cols g m.c.now (set c.if-cols-ge2.c (m.at + 2) (g 2)) 3
-third_put c = law.third-put c.if-cols-ge3.true refl (some_put c.before)
+third_put c = law.third_put c.if-cols-ge3.true refl (some_put c.before)
 
 pub put_sums_spec : {M : Type 1} → statement M
 put_sums_spec =

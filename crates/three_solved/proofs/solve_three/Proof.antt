@@ -20,14 +20,14 @@ returns-then-not-taken-2 c =
 
 returns-then-not-taken-3 : tie.Need-returns-then-not-taken-3
 returns-then-not-taken-3 c =
-    third_refused binary32 _ _ _ _ _ _ _ c.none-then-not-taken-3.ensures _ _ _ _ (first c.before.before.before.before)
+    third_refused binary32 _ _ _ _ _ _ _ c.none-then-not-taken-3.ensures _ _ _ _ (first c.before.before.before.before.before.before.before)
     (sym c.taken-2.ensures ∙ not-false _ c.if-not-taken-2.false-raw, c.square_root-l11.ensures, c.recip-d1.ensures)
     (sym c.taken-3.ensures ∙ not-true _ c.if-not-taken-3.true-raw)
 
 returns : tie.Need-returns
 unfolding of_bits
 returns c =
-    all_taken binary32 _ _ _ _ _ _ _ _ _ _ _ _ (first c.before.before.before.before)
+    all_taken binary32 _ _ _ _ _ _ _ _ _ _ _ _ (first c.before.before.before.before.before.before.before.before)
     (sym c.taken-2.ensures ∙ not-false _ c.if-not-taken-2.false-raw, c.square_root-l11.ensures, c.recip-d1.ensures)
     (sym c.taken-3.ensures ∙ not-false _ c.if-not-taken-3.false-raw, c.square_root-l22.ensures, c.recip-d2.ensures)
 

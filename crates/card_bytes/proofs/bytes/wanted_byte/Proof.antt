@@ -4,18 +4,18 @@ use borrow.Author.Rules.{rules}
 use Rattle.card_bytes.proofs.bytes.wanted_byte.Statement.{statement}
 use Rattle.card_bytes.proofs.bytes.wanted_byte.Tie as tie
 
-shared-slice-read-result : tie.Need-shared-slice-read-result
-shared-slice-read-result c = search rules
+bounds-text-i : tie.Need-bounds-text-i
+bounds-text-i c = search rules
 
-lent-byte-requires : tie.Need-lent-byte-requires
-lent-byte-requires c κs = search rules
+lent_byte-requires : tie.Need-lent_byte-requires
+lent_byte-requires c κs = search rules
 
-returns : tie.Need-returns
-returns c = a_byte c.before.before.before.args.text.now _ c.before.if1.true
+returns-then-i-text : tie.Need-returns-then-i-text
+returns-then-i-text c = a_byte c.args.text.now _ c.if-i-text.true
 
-returns-2 : tie.Need-returns-2
-returns-2 c = as_lent c.before.before.before.args.text.now _ c.before.if1.false _ c.lent-byte.ensures
+returns-else-i-text : tie.Need-returns-else-i-text
+returns-else-i-text c = as_lent c.args.text.now _ c.if-i-text.false _ c.lent_byte.ensures
 
-pub wanted-byte-spec : {M : Type 1} → statement M
-wanted-byte-spec =
-    tie.close (tie.spec shared-slice-read-result lent-byte-requires returns returns-2)
+pub wanted_byte_spec : {M : Type 1} → statement M
+wanted_byte_spec =
+    tie.close (tie.spec bounds-text-i lent_byte-requires returns-then-i-text returns-else-i-text)

@@ -7,35 +7,35 @@ use borrow.Author.Rules.{rules}
 use Rattle.card_bytes.proofs.expected.copy.Statement.{statement}
 use Rattle.card_bytes.proofs.expected.copy.Tie as tie
 
-abbrev invariant-loop : tie.invariant-loop
+abbrev invariant-loop : tie.invariant-loop-i
 invariant-loop card text₀ i₀ text i = Copied card text i
 
-abbrev decreases-loop : tie.decreases-loop
+abbrev decreases-loop : tie.decreases-loop-i
 decreases-loop card text₀ i₀ text i = length card - i
 
-loop-holds : tie.Need-loop-init invariant-loop decreases-loop
-loop-holds c = none_copied _ _ (search rules)
+loop-i-init : tie.Need-loop-i-init invariant-loop decreases-loop
+loop-i-init c = none_copied _ _ (search rules)
 
-shared-slice-read-text : tie.Need-shared-slice-read-text invariant-loop decreases-loop
-shared-slice-read-text c = search rules
+bounds-card-i : tie.Need-bounds-card-i invariant-loop decreases-loop
+bounds-card-i c = search rules
 
-slice-write-text : tie.Need-slice-write-text invariant-loop decreases-loop
-slice-write-text c = search rules
+bounds-text-i : tie.Need-bounds-text-i invariant-loop decreases-loop
+bounds-text-i c = search rules
 
-add-i : tie.Need-overflow-add-i invariant-loop decreases-loop
-add-i c = search rules
+overflow_add-i : tie.Need-overflow_add-i invariant-loop decreases-loop
+overflow_add-i c = search rules
 
-loop-less : tie.Need-loop-smaller invariant-loop decreases-loop
-loop-less c = search rules
+loop-i-smaller : tie.Need-loop-i-smaller invariant-loop decreases-loop
+loop-i-smaller c = search rules
 
-loop-again : tie.Need-loop-preserved invariant-loop decreases-loop
-loop-again c = one_copied _ _ _ c.before.loop-test.true c.before.before.loop.invariant
+loop-i-preserved : tie.Need-loop-i-preserved invariant-loop decreases-loop
+loop-i-preserved c = one_copied _ _ _ c.loop-i-test.true c.loop-i.invariant
 
-same_length : tie.Need-same-length invariant-loop decreases-loop
-same_length c = search rules
+shape_of-text : tie.Need-shape_of-text invariant-loop decreases-loop
+shape_of-text c = search rules
 
 returns : tie.Need-returns invariant-loop decreases-loop
-returns c = all_copied _ _ _ c.loop-test.false c.before.loop.invariant
+returns c = all_copied _ _ _ c.loop-i-test.false c.loop-i.invariant
 
 pub copy_spec : {M : Type 1} → statement M
 copy_spec =
@@ -43,11 +43,11 @@ copy_spec =
     (tie.spec
     invariant-loop
     decreases-loop
-    loop-holds
-    shared-slice-read-text
-    slice-write-text
-    add-i
-    loop-less
-    loop-again
-    same_length
+    loop-i-init
+    bounds-card-i
+    bounds-text-i
+    overflow_add-i
+    loop-i-smaller
+    loop-i-preserved
+    shape_of-text
     returns)

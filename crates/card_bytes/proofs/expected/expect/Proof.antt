@@ -8,40 +8,40 @@ use Rattle.card_bytes.proofs.expected.expect.Tie as tie
 copy-requires : tie.Need-copy-requires
 copy-requires c κs = search rules
 
-word-at-requires : tie.Need-word-at-requires
-word-at-requires c κs = search rules
+word_at-w-requires : tie.Need-word_at-w-requires
+word_at-w-requires c κs = search rules
 
-cast-many : tie.Need-overflow-cast-many
-cast-many c = search rules
+overflow_cast-many : tie.Need-overflow_cast-many
+overflow_cast-many c = search rules
 
-same_length : tie.Need-same-length
-same_length c = search rules
+shape_of-text-then-text-many : tie.Need-shape_of-text-then-text-many
+shape_of-text-then-text-many c = search rules
+
+returns-then-text-many : tie.Need-returns-then-text-many
+returns-then-text-many c =
+    let a = c.args in
+    too_many a.s.now a.at a.card.now _ c.copy.ensures _ c.word_at-w.ensures c.if-text-many.true
+
+put_all-requires : tie.Need-put_all-requires
+put_all-requires c κs = search rules
+
+shape_of-text : tie.Need-shape_of-text
+shape_of-text c = search rules
 
 returns : tie.Need-returns
 returns c =
-    let a = c.before.before.before.before.before.before.before.before.before.before.args in
-    too_many a.s.now a.at a.card.now _ c.before.before.before.before.before.copy.ensures _ c.before.before.word_at.ensures c.if1.true
+    let a = c.args in
+    expected a.s.now a.at a.card.now _ c.copy.ensures _ c.word_at-w.ensures c.if-text-many.false _ _ c.put_all.ensures.0 c.put_all.ensures.1
 
-put-all-requires : tie.Need-put-all-requires
-put-all-requires c κs = search rules
-
-same-length-2 : tie.Need-same-length-2
-same-length-2 c = search rules
-
-returns-2 : tie.Need-returns-2
-returns-2 c =
-    let a = c.before.before.before.before.before.before.before.before.before.before.before.before.before.before.args in
-    expected a.s.now a.at a.card.now _ c.before.before.before.before.before.before.before.before.before.copy.ensures _ c.before.before.before.before.before.before.word_at.ensures c.before.before.before.before.if1.false _ _ c.before.before.put_all.ensures.0 c.before.before.put_all.ensures.1
-
-pub expect-spec : {M : Type 1} → statement M
-expect-spec =
+pub expect_spec : {M : Type 1} → statement M
+expect_spec =
     tie.close
     (tie.spec
     copy-requires
-    word-at-requires
-    cast-many
-    same_length
-    returns
-    put-all-requires
-    same-length-2
-    returns-2)
+    word_at-w-requires
+    overflow_cast-many
+    shape_of-text-then-text-many
+    returns-then-text-many
+    put_all-requires
+    shape_of-text
+    returns)

@@ -6,43 +6,43 @@ use borrow.Author.Rules.{rules}
 use Rattle.card_bytes.proofs.expected.put_all.Statement.{statement}
 use Rattle.card_bytes.proofs.expected.put_all.Tie as tie
 
-abbrev invariant-loop : tie.invariant-loop
+abbrev invariant-loop : tie.invariant-loop-i
 invariant-loop s at many text₀ next₀ i₀ text next i = Placed s next₀ text₀ many text next i
 
-abbrev decreases-loop : tie.decreases-loop
+abbrev decreases-loop : tie.decreases-loop-i
 decreases-loop s at many text₀ next₀ i₀ text next i = many - i
 
-loop-holds : tie.Need-loop-init invariant-loop decreases-loop
-loop-holds c = none-placed _ _ _ _
+loop-i-init : tie.Need-loop-i-init invariant-loop decreases-loop
+loop-i-init c = none-placed _ _ _ _
 
-put-one-requires : tie.Need-put-one-requires invariant-loop decreases-loop
-put-one-requires c κs = search rules
+put_one-next-requires : tie.Need-put_one-next-requires invariant-loop decreases-loop
+put_one-next-requires c κs = search rules
 
-add-i : tie.Need-overflow-add-i invariant-loop decreases-loop
-add-i c = search rules
+overflow_add-i : tie.Need-overflow_add-i invariant-loop decreases-loop
+overflow_add-i c = search rules
 
-loop-less : tie.Need-loop-smaller invariant-loop decreases-loop
-loop-less c = search rules
+loop-i-smaller : tie.Need-loop-i-smaller invariant-loop decreases-loop
+loop-i-smaller c = search rules
 
-loop-again : tie.Need-loop-preserved invariant-loop decreases-loop
-loop-again c = one_placed _ _ _ _ _ _ _ _ _ c.before.before.before.before.loop-test.true c.before.before.before.before.before.loop.invariant (search rules) c.before.before.put_one.ensures.0 c.before.before.put_one.ensures.1
+loop-i-preserved : tie.Need-loop-i-preserved invariant-loop decreases-loop
+loop-i-preserved c = one_placed _ _ _ _ _ _ _ _ _ c.loop-i-test.true c.loop-i.invariant (search rules) c.put_one-next.ensures.0 c.put_one-next.ensures.1
 
-same_length : tie.Need-same-length invariant-loop decreases-loop
-same_length c = c.before.loop.invariant.whole
+shape_of-text : tie.Need-shape_of-text invariant-loop decreases-loop
+shape_of-text c = c.loop-i.invariant.whole
 
 returns : tie.Need-returns invariant-loop decreases-loop
-returns c = all_placed _ _ _ _ _ _ _ c.loop-test.false c.before.loop.invariant
+returns c = all_placed _ _ _ _ _ _ _ c.loop-i-test.false c.loop-i.invariant
 
-pub put-all-spec : {M : Type 1} → statement M
-put-all-spec =
+pub put_all_spec : {M : Type 1} → statement M
+put_all_spec =
     tie.close
     (tie.spec
     invariant-loop
     decreases-loop
-    loop-holds
-    put-one-requires
-    add-i
-    loop-less
-    loop-again
-    same_length
+    loop-i-init
+    put_one-next-requires
+    overflow_add-i
+    loop-i-smaller
+    loop-i-preserved
+    shape_of-text
     returns)

@@ -5,28 +5,28 @@ use borrow.Author.Rules.{rules}
 use Rattle.card_bytes.proofs.expected.put_one.Statement.{statement}
 use Rattle.card_bytes.proofs.expected.put_one.Tie as tie
 
-word-at-requires : tie.Need-word-at-requires
-word-at-requires c κs = search rules
+word_at-w-requires : tie.Need-word_at-w-requires
+word_at-w-requires c κs = search rules
 
-cast-p : tie.Need-overflow-cast-p
-cast-p c = search rules
+overflow_cast-p : tie.Need-overflow_cast-p
+overflow_cast-p c = search rules
 
-add-if1 : tie.Need-overflow-add-if1
-add-if1 c = search rules
+overflow_add-p : tie.Need-overflow_add-p
+overflow_add-p c = search rules
+
+returns-then-text-p : tie.Need-returns-then-text-p
+returns-then-text-p c = no_place _ _ c.args.text.now _ c.word_at-w.ensures c.if-text-p.true
+
+put_quiet-requires : tie.Need-put_quiet-requires
+put_quiet-requires c κs = search rules
+
+shape_of-text : tie.Need-shape_of-text
+shape_of-text c = search rules
 
 returns : tie.Need-returns
-returns c = no_place _ _ c.before.before.before.before.before.args.text.now _ c.before.before.word_at.ensures c.if1.true
+returns c = a_place _ _ _ _ c.word_at-w.ensures c.if-text-p.false _ c.put_quiet.ensures
 
-put-quiet-requires : tie.Need-put-quiet-requires
-put-quiet-requires c κs = search rules
-
-same_length : tie.Need-same-length
-same_length c = search rules
-
-returns-2 : tie.Need-returns-2
-returns-2 c = a_place _ _ _ _ c.before.before.before.before.before.before.word_at.ensures c.before.before.before.before.if1.false _ c.before.before.put-quiet.ensures
-
-pub put-one-spec : {M : Type 1} → statement M
-put-one-spec =
+pub put_one_spec : {M : Type 1} → statement M
+put_one_spec =
     tie.close
-    (tie.spec word-at-requires cast-p add-if1 returns put-quiet-requires same_length returns-2)
+    (tie.spec word_at-w-requires overflow_cast-p overflow_add-p returns-then-text-p put_quiet-requires shape_of-text returns)

@@ -7,47 +7,47 @@ use borrow.Author.Rules.{rules}
 use Rattle.card_bytes.proofs.lent.lend_bytes.Statement.{statement}
 use Rattle.card_bytes.proofs.lent.lend_bytes.Tie as tie
 
-abbrev invariant-loop : tie.invariant-loop
+abbrev invariant-loop : tie.invariant-loop-i
 invariant-loop bytes₀ i₀ bytes i = Lending bytes₀ bytes i
 
-abbrev decreases-loop : tie.decreases-loop
+abbrev decreases-loop : tie.decreases-loop-i
 decreases-loop bytes₀ i₀ bytes i = length bytes₀ - i
 
-loop-holds : tie.Need-loop-init invariant-loop decreases-loop
-loop-holds c = none_lent _
+loop-i-init : tie.Need-loop-i-init invariant-loop decreases-loop
+loop-i-init c = none_lent _
 
-lent-byte-requires : tie.Need-lent-byte-requires invariant-loop decreases-loop
-lent-byte-requires c κs = search rules
+lent_byte-requires : tie.Need-lent_byte-requires invariant-loop decreases-loop
+lent_byte-requires c κs = search rules
 
-slice-write-bytes : tie.Need-slice-write-bytes invariant-loop decreases-loop
-slice-write-bytes c = search rules
+bounds-bytes-i : tie.Need-bounds-bytes-i invariant-loop decreases-loop
+bounds-bytes-i c = search rules
 
-add-i : tie.Need-overflow-add-i invariant-loop decreases-loop
-add-i c = search rules
+overflow_add-i : tie.Need-overflow_add-i invariant-loop decreases-loop
+overflow_add-i c = search rules
 
-loop-less : tie.Need-loop-smaller invariant-loop decreases-loop
-loop-less c = search rules
+loop-i-smaller : tie.Need-loop-i-smaller invariant-loop decreases-loop
+loop-i-smaller c = search rules
 
-loop-again : tie.Need-loop-preserved invariant-loop decreases-loop
-loop-again c = one_lent _ _ _ _ c.before.loop-test.true c.before.before.loop.invariant c.lent-byte.ensures
+loop-i-preserved : tie.Need-loop-i-preserved invariant-loop decreases-loop
+loop-i-preserved c = one_lent _ _ _ _ c.loop-i-test.true c.loop-i.invariant c.lent_byte.ensures
 
-same_length : tie.Need-same-length invariant-loop decreases-loop
-same_length c = c.before.loop.invariant.whole
+shape_of-bytes : tie.Need-shape_of-bytes invariant-loop decreases-loop
+shape_of-bytes c = c.loop-i.invariant.whole
 
 returns : tie.Need-returns invariant-loop decreases-loop
-returns c = all_lent _ _ _ c.loop-test.false c.before.loop.invariant
+returns c = all_lent _ _ _ c.loop-i-test.false c.loop-i.invariant
 
-pub lend-bytes-spec : {M : Type 1} → statement M
-lend-bytes-spec =
+pub lend_bytes_spec : {M : Type 1} → statement M
+lend_bytes_spec =
     tie.close
     (tie.spec
     invariant-loop
     decreases-loop
-    loop-holds
-    lent-byte-requires
-    slice-write-bytes
-    add-i
-    loop-less
-    loop-again
-    same_length
+    loop-i-init
+    lent_byte-requires
+    bounds-bytes-i
+    overflow_add-i
+    loop-i-smaller
+    loop-i-preserved
+    shape_of-bytes
     returns)

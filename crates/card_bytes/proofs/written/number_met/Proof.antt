@@ -14,7 +14,7 @@ met-requires : tie.Need-met-requires
 met-requires c κs = search rules
 
 returns : tie.Need-returns
-returns c = number_is _ _ _ _ _ _ _ c.before.before.low.ensures c.before.low2.ensures c.met.ensures
+returns c = number_is _ _ _ _ _ _ _ c.low.ensures c.low-2.ensures c.met.ensures
 
-pub number-met-spec : {M : Type 1} → statement M
-number-met-spec = tie.close (tie.spec low-requires low-requires-2 met-requires returns)
+pub number_met_spec : {M : Type 1} → statement M
+number_met_spec = tie.close (tie.spec low-requires low-requires-2 met-requires returns)

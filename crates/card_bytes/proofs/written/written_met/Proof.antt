@@ -5,51 +5,51 @@ use borrow.Author.Rules.{rules}
 use Rattle.card_bytes.proofs.written.written_met.Statement.{statement}
 use Rattle.card_bytes.proofs.written.written_met.Tie as tie
 
-number-met-requires : tie.Need-number-met-requires
-number-met-requires c κs = search rules
+number_met-refused-requires : tie.Need-number_met-refused-requires
+number_met-refused-requires c κs = search rules
 
-sub-bytes-met : tie.Need-overflow-sub-bytes-met
-sub-bytes-met c = search rules
+slice_bounds-bytes_met-count : tie.Need-slice_bounds-bytes_met-count
+slice_bounds-bytes_met-count c = search rules
 
-part-bytes-met-start : tie.Need-slice-bounds-bytes-met-start
-part-bytes-met-start c = search rules
+slice-bounds-bytes-met-start : tie.Need-slice-bounds-bytes-met-start
+slice-bounds-bytes-met-start c = search rules
 
-part-bytes-met-end : tie.Need-slice-bounds-bytes-met-end
-part-bytes-met-end c = search rules
+slice-bounds-bytes-met-end : tie.Need-slice-bounds-bytes-met-end
+slice-bounds-bytes-met-end c = search rules
 
-bytes-met-requires : tie.Need-bytes-met-requires
-bytes-met-requires c κs = search rules
+bytes_met-requires : tie.Need-bytes_met-requires
+bytes_met-requires c κs = search rules
+
+returns-then-bytes-text : tie.Need-returns-then-bytes-text
+returns-then-bytes-text c =
+    let a = c.args in
+    too_few a.o a.text.now a.code a.length a.bytes.now c.if-bytes-text.true _ _ c.number_met-refused.ensures c.bytes_met.ensures
+
+number_met-done-requires : tie.Need-number_met-done-requires
+number_met-done-requires c κs = search rules
+
+number_met-long-requires : tie.Need-number_met-long-requires
+number_met-long-requires c κs = search rules
+
+bytes_met-requires-2 : tie.Need-bytes_met-requires-2
+bytes_met-requires-2 c κs = search rules
 
 returns : tie.Need-returns
 returns c =
-    let a = c.before.before.before.before.before.before.args in
-    too_few a.o a.text.now a.code a.length a.bytes.now c.before.before.before.if1.true _ _ c.before.before.number-met.ensures c.bytes-met.ensures
+    let a = c.args in
+    enough a.o a.text.now a.code a.length a.bytes.now c.if-bytes-text.false _ _ _ c.number_met-done.ensures c.number_met-long.ensures c.bytes_met-2.ensures
 
-number-met-requires-2 : tie.Need-number-met-requires-2
-number-met-requires-2 c κs = search rules
-
-number-met-requires-3 : tie.Need-number-met-requires-3
-number-met-requires-3 c κs = search rules
-
-bytes-met-requires-2 : tie.Need-bytes-met-requires-2
-bytes-met-requires-2 c κs = search rules
-
-returns-2 : tie.Need-returns-2
-returns-2 c =
-    let a = c.before.before.before.before.before.before.args in
-    enough a.o a.text.now a.code a.length a.bytes.now c.before.before.before.if1.false _ _ _ c.before.before.number-met2.ensures c.before.number-met3.ensures c.bytes-met2.ensures
-
-pub written-met-spec : {M : Type 1} → statement M
-written-met-spec =
+pub written_met_spec : {M : Type 1} → statement M
+written_met_spec =
     tie.close
     (tie.spec
-    number-met-requires
-    sub-bytes-met
-    part-bytes-met-start
-    part-bytes-met-end
-    bytes-met-requires
-    returns
-    number-met-requires-2
-    number-met-requires-3
-    bytes-met-requires-2
-    returns-2)
+    number_met-refused-requires
+    slice_bounds-bytes_met-count
+    slice-bounds-bytes-met-start
+    slice-bounds-bytes-met-end
+    bytes_met-requires
+    returns-then-bytes-text
+    number_met-done-requires
+    number_met-long-requires
+    bytes_met-requires-2
+    returns)

@@ -8,47 +8,47 @@ use borrow.Author.Rules.{rules}
 use Rattle.card_cells.proofs.cells.all_met.Statement.{statement}
 use Rattle.card_cells.proofs.cells.all_met.Tie as tie
 
-abbrev invariant-loop : tie.invariant-loop
+abbrev invariant-loop : tie.invariant-loop-i
 invariant-loop s buffer k cells len more₀ i₀ more i = (i ≤ len) × (more ≡ all_met s more₀ buffer k cells i)
 
-abbrev decreases-loop : tie.decreases-loop
+abbrev decreases-loop : tie.decreases-loop-i
 decreases-loop s buffer k cells len more₀ i₀ more i = len - i
 
-loop-holds : tie.Need-loop-init invariant-loop decreases-loop
-loop-holds c = (search rules, no_cell _ _ _ _ _)
+loop-i-init : tie.Need-loop-i-init invariant-loop decreases-loop
+loop-i-init c = (search rules, no_cell _ _ _ _ _)
 
-mul-cell-met : tie.Need-overflow-mul-cell-met invariant-loop decreases-loop
-mul-cell-met c = search rules
+offset_bounds-cells-i : tie.Need-offset_bounds-cells-i invariant-loop decreases-loop
+offset_bounds-cells-i c = search rules
 
-element-copy-out-cell-met : tie.Need-element-copy-out-cell-met invariant-loop decreases-loop
-element-copy-out-cell-met c = search rules
+bounds-cells-i : tie.Need-bounds-cells-i invariant-loop decreases-loop
+bounds-cells-i c = search rules
 
-cell-met-requires : tie.Need-cell-met-requires invariant-loop decreases-loop
-cell-met-requires c κs = search rules
+cell_met-more-requires : tie.Need-cell_met-more-requires invariant-loop decreases-loop
+cell_met-more-requires c κs = search rules
 
-add-i : tie.Need-overflow-add-i invariant-loop decreases-loop
-add-i c = search rules
+overflow_add-i : tie.Need-overflow_add-i invariant-loop decreases-loop
+overflow_add-i c = search rules
 
-loop-less : tie.Need-loop-smaller invariant-loop decreases-loop
-loop-less c = search rules
+loop-i-smaller : tie.Need-loop-i-smaller invariant-loop decreases-loop
+loop-i-smaller c = search rules
 
-loop-again : tie.Need-loop-preserved invariant-loop decreases-loop
-loop-again c = (search rules, one_cell _ _ _ _ _ _ _ _ c.before.before.before.loop.invariant.1 c.cell-met.ensures)
+loop-i-preserved : tie.Need-loop-i-preserved invariant-loop decreases-loop
+loop-i-preserved c = (search rules, one_cell _ _ _ _ _ _ _ _ c.loop-i.invariant.1 c.cell_met-more.ensures)
 
 returns : tie.Need-returns invariant-loop decreases-loop
-returns c = all_cells _ _ _ _ _ _ _ _ c.before.loop.invariant.0 c.loop-test.false c.before.loop.invariant.1
+returns c = all_cells _ _ _ _ _ _ _ _ c.loop-i.invariant.0 c.loop-i-test.false c.loop-i.invariant.1
 
-pub all-met-spec : {M : Type 1} → statement M
-all-met-spec =
+pub all_met_spec : {M : Type 1} → statement M
+all_met_spec =
     tie.close
     (tie.spec
     invariant-loop
     decreases-loop
-    loop-holds
-    mul-cell-met
-    element-copy-out-cell-met
-    cell-met-requires
-    add-i
-    loop-less
-    loop-again
+    loop-i-init
+    offset_bounds-cells-i
+    bounds-cells-i
+    cell_met-more-requires
+    overflow_add-i
+    loop-i-smaller
+    loop-i-preserved
     returns)

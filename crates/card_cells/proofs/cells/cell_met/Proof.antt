@@ -5,17 +5,17 @@ use borrow.Author.Rules.{rules}
 use Rattle.card_cells.proofs.cells.cell_met.Statement.{statement}
 use Rattle.card_cells.proofs.cells.cell_met.Tie as tie
 
-float-met-requires : tie.Need-float-met-requires
-float-met-requires c κs = search rules
+float_met-requires : tie.Need-float_met-requires
+float_met-requires c κs = search rules
 
-kept-met-requires : tie.Need-kept-met-requires
-kept-met-requires c κs = search rules
+kept_met-requires : tie.Need-kept_met-requires
+kept_met-requires c κs = search rules
 
-returns : tie.Need-returns
-returns c = a_word _ _ _ _ _ _ _ c.before.if1.true c.float-met.ensures
+returns-then-i-k : tie.Need-returns-then-i-k
+returns-then-i-k c = a_word _ _ _ _ _ _ _ c.if-i-k.true c.float_met.ensures
 
-returns-2 : tie.Need-returns-2
-returns-2 c = as_lent _ _ _ _ _ _ _ c.before.if1.false c.kept-met.ensures
+returns-else-i-k : tie.Need-returns-else-i-k
+returns-else-i-k c = as_lent _ _ _ _ _ _ _ c.if-i-k.false c.kept_met.ensures
 
-pub cell-met-spec : {M : Type 1} → statement M
-cell-met-spec = tie.close (tie.spec float-met-requires kept-met-requires returns returns-2)
+pub cell_met_spec : {M : Type 1} → statement M
+cell_met_spec = tie.close (tie.spec float_met-requires kept_met-requires returns-then-i-k returns-else-i-k)

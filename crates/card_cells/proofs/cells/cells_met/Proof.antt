@@ -8,21 +8,21 @@ use borrow.Author.Rules.{rules}
 use Rattle.card_cells.proofs.cells.cells_met.Statement.{statement}
 use Rattle.card_cells.proofs.cells.cells_met.Tie as tie
 
-returns : tie.Need-returns
-returns c =
-    let a = c.before.before.args in
+returns-then-len-gt272 : tie.Need-returns-then-len-gt272
+returns-then-len-gt272 c =
+    let a = c.args in
     ⊎_elim
     (λ w. too_long a.s.now a.o a.buffer a.k a.cells.now a.len (omega arith))
     (λ w. too_few a.s.now a.o a.buffer a.k a.cells.now a.len (ltb-true _ _ w.1.taken))
-    c.if1.branch
+    c.then-len-gt272.branch
 
-all-met-requires : tie.Need-all-met-requires
-all-met-requires c κs = search rules
+all_met-requires : tie.Need-all_met-requires
+all_met-requires c κs = search rules
 
-returns-2 : tie.Need-returns-2
-returns-2 c =
-    let a = c.before.before.before.before.args in
-    all_of_them a.s.now a.o a.buffer a.k a.cells.now a.len c.before.before.if1.false (ltb-false _ _ c.before.if2.false) _ c.all-met.ensures
+returns : tie.Need-returns
+returns c =
+    let a = c.args in
+    all_of_them a.s.now a.o a.buffer a.k a.cells.now a.len c.if-len-gt272.false (ltb-false _ _ c.if-len-k.false-raw) _ c.all_met.ensures
 
-pub cells-met-spec : {M : Type 1} → statement M
-cells-met-spec = tie.close (tie.spec returns all-met-requires returns-2)
+pub cells_met_spec : {M : Type 1} → statement M
+cells_met_spec = tie.close (tie.spec returns-then-len-gt272 all_met-requires returns)

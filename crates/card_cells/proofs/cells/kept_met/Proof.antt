@@ -5,11 +5,11 @@ use borrow.Author.Rules.{rules}
 use Rattle.card_cells.proofs.cells.kept_met.Statement.{statement}
 use Rattle.card_cells.proofs.cells.kept_met.Tie as tie
 
-lent-bits-requires : tie.Need-lent-bits-requires
-lent-bits-requires c κs = search rules
+lent_bits-want-requires : tie.Need-lent_bits-want-requires
+lent_bits-want-requires c κs = search rules
 
-bits-of-requires : tie.Need-bits-of-requires
-bits-of-requires c κs = search rules
+bits_of-found-requires : tie.Need-bits_of-found-requires
+bits_of-found-requires c κs = search rules
 
 same-requires : tie.Need-same-requires
 same-requires c κs = search rules
@@ -19,8 +19,8 @@ met-requires c κs = search rules
 
 returns : tie.Need-returns
 returns c =
-    let a = c.before.before.before.before.args in
-    kept_is a.o a.buffer a.i a.x _ _ _ _ c.before.before.before.lent-bits.ensures c.before.before.bits-of.ensures c.before.same.ensures c.met.ensures
+    let a = c.args in
+    kept_is a.o a.buffer a.i a.x _ _ _ _ c.lent_bits-want.ensures c.bits_of-found.ensures c.same.ensures c.met.ensures
 
-pub kept-met-spec : {M : Type 1} → statement M
-kept-met-spec = tie.close (tie.spec lent-bits-requires bits-of-requires same-requires met-requires returns)
+pub kept_met_spec : {M : Type 1} → statement M
+kept_met_spec = tie.close (tie.spec lent_bits-want-requires bits_of-found-requires same-requires met-requires returns)

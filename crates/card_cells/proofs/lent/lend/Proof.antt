@@ -6,41 +6,41 @@ use borrow.Author.Rules.{rules}
 use Rattle.card_cells.proofs.lent.lend.Statement.{statement}
 use Rattle.card_cells.proofs.lent.lend.Tie as tie
 
-abbrev invariant-loop : tie.invariant-loop
+abbrev invariant-loop : tie.invariant-loop-i
 invariant-loop buffer len n cells₀ i₀ cells i = Marked buffer n cells i
 
-abbrev decreases-loop : tie.decreases-loop
+abbrev decreases-loop : tie.decreases-loop-i
 decreases-loop buffer len n cells₀ i₀ cells i = n - i
 
-at-most-requires : tie.Need-at-most-requires invariant-loop decreases-loop
-at-most-requires c κs = search rules
+at_most-n-requires : tie.Need-at_most-n-requires invariant-loop decreases-loop
+at_most-n-requires c κs = search rules
 
-loop-holds : tie.Need-loop-init invariant-loop decreases-loop
-loop-holds c = none-marked _ _
+loop-i-init : tie.Need-loop-i-init invariant-loop decreases-loop
+loop-i-init c = none-marked _ _
 
-lent-bits-requires : tie.Need-lent-bits-requires invariant-loop decreases-loop
-lent-bits-requires c κs = search rules
+lent_bits-requires : tie.Need-lent_bits-requires invariant-loop decreases-loop
+lent_bits-requires c κs = search rules
 
-float-of-requires : tie.Need-float-of-requires invariant-loop decreases-loop
-float-of-requires c κs = search rules
+float_of-requires : tie.Need-float_of-requires invariant-loop decreases-loop
+float_of-requires c κs = search rules
 
-mul-cells : tie.Need-overflow-mul-cells invariant-loop decreases-loop
-mul-cells c = search rules
+offset_bounds-cells-i : tie.Need-offset_bounds-cells-i invariant-loop decreases-loop
+offset_bounds-cells-i c = search rules
 
-array-write-cells : tie.Need-array-write-cells invariant-loop decreases-loop
-array-write-cells c = search rules
+bounds-cells-i : tie.Need-bounds-cells-i invariant-loop decreases-loop
+bounds-cells-i c = search rules
 
-add-i : tie.Need-overflow-add-i invariant-loop decreases-loop
-add-i c = search rules
+overflow_add-i : tie.Need-overflow_add-i invariant-loop decreases-loop
+overflow_add-i c = search rules
 
-loop-less : tie.Need-loop-smaller invariant-loop decreases-loop
-loop-less c = search rules
+loop-i-smaller : tie.Need-loop-i-smaller invariant-loop decreases-loop
+loop-i-smaller c = search rules
 
-loop-again : tie.Need-loop-preserved invariant-loop decreases-loop
-loop-again c = one-marked _ _ _ _ _ _ c.before.before.loop-test.true c.before.before.before.loop.invariant c.before.lent-bits.ensures c.float_of.ensures
+loop-i-preserved : tie.Need-loop-i-preserved invariant-loop decreases-loop
+loop-i-preserved c = one-marked _ _ _ _ _ _ c.loop-i-test.true c.loop-i.invariant c.lent_bits.ensures c.float_of.ensures
 
 returns : tie.Need-returns invariant-loop decreases-loop
-returns c = all_marked _ _ _ _ _ c.before.before.at_most.ensures (search rules) c.loop-test.false c.before.loop.invariant
+returns c = all_marked _ _ _ _ _ c.at_most-n.ensures (search rules) c.loop-i-test.false c.loop-i.invariant
 
 pub lend_spec : {M : Type 1} → statement M
 lend_spec =
@@ -48,13 +48,13 @@ lend_spec =
     (tie.spec
     invariant-loop
     decreases-loop
-    at-most-requires
-    loop-holds
-    lent-bits-requires
-    float-of-requires
-    mul-cells
-    array-write-cells
-    add-i
-    loop-less
-    loop-again
+    at_most-n-requires
+    loop-i-init
+    lent_bits-requires
+    float_of-requires
+    offset_bounds-cells-i
+    bounds-cells-i
+    overflow_add-i
+    loop-i-smaller
+    loop-i-preserved
     returns)

@@ -14,43 +14,43 @@ use Rattle.card_spelling.proofs.text.put_card.Tie as tie
 
 -- ---- where the function began, from behind line 1, from behind line 2, ..
 
-abbrev start1 : tie.After-put-count-line → tie.Start
+abbrev start1 : tie.After-put_count_line-at_states → tie.Start
 start1 c = c.before.before.before.before.before.before.before.before
 
-abbrev start2 : tie.After-put-count-line2 → tie.Start
+abbrev start2 : tie.After-put_count_line-at_observations → tie.Start
 start2 c = start1 c.before.before.before.before.before
 
-abbrev start3 : tie.After-put-count-line3 → tie.Start
+abbrev start3 : tie.After-put_count_line-at_a → tie.Start
 start3 c = start2 c.before.before.before.before.before
 
-abbrev start4 : tie.After-put-entries-line → tie.Start
+abbrev start4 : tie.After-put_entries_line-at_q → tie.Start
 start4 c = start3 c.before.before.before.before.before
 
-abbrev start5 : tie.After-put-entries-line2 → tie.Start
+abbrev start5 : tie.After-put_entries_line-at_h → tie.Start
 start5 c = start4 c.before.before.before.before.before
 
-abbrev start6 : tie.After-put-entries-line3 → tie.Start
+abbrev start6 : tie.After-put_entries_line-at_r → tie.Start
 start6 c = start5 c.before.before.before.before.before
 
 -- ---- room there
 
-room1 : (c : tie.After-put-count-line) → c.put-count-line.result + left1 8 (start1 c).args.n (start1 c).args.m ≤ length c.put-count-line.new.0
-room1 c = let e = start1 c in room_behind _ _ (left1 8 e.args.n e.args.m) _ (room_first 8 e.args.n e.args.m _ e.pre.8) _ _ c.put-count-line.ensures.0 c.put-count-line.auto.0
+room1 : (c : tie.After-put_count_line-at_states) → c.put_count_line-at_states.result + left1 8 c.args.n c.args.m ≤ length c.put_count_line-at_states.new.0
+room1 c = room_behind _ _ (left1 8 c.args.n c.args.m) _ (room_first 8 c.args.n c.args.m _ c.pre.8) _ _ c.put_count_line-at_states.ensures.0 c.put_count_line-at_states.auto.0
 
-room2 : (c : tie.After-put-count-line2) → c.put-count-line2.result + left2 8 (start2 c).args.n (start2 c).args.m ≤ length c.put-count-line2.new.0
-room2 c = let e = start2 c in room_behind _ _ (left2 8 e.args.n e.args.m) _ (room1 c.before.before.before.before.before) _ _ c.put-count-line2.ensures.0 c.put-count-line2.auto.0
+room2 : (c : tie.After-put_count_line-at_observations) → c.put_count_line-at_observations.result + left2 8 c.args.n c.args.m ≤ length c.put_count_line-at_observations.new.0
+room2 c = room_behind _ _ (left2 8 c.args.n c.args.m) _ (room1 c.before.before.before.before.before) _ _ c.put_count_line-at_observations.ensures.0 c.put_count_line-at_observations.auto.0
 
-room3 : (c : tie.After-put-count-line3) → c.put-count-line3.result + left3 8 (start3 c).args.n (start3 c).args.m ≤ length c.put-count-line3.new.0
-room3 c = let e = start3 c in room_behind _ _ (left3 8 e.args.n e.args.m) _ (room2 c.before.before.before.before.before) _ _ c.put-count-line3.ensures.0 c.put-count-line3.auto.0
+room3 : (c : tie.After-put_count_line-at_a) → c.put_count_line-at_a.result + left3 8 c.args.n c.args.m ≤ length c.put_count_line-at_a.new.0
+room3 c = room_behind _ _ (left3 8 c.args.n c.args.m) _ (room2 c.before.before.before.before.before) _ _ c.put_count_line-at_a.ensures.0 c.put_count_line-at_a.auto.0
 
-room4 : (c : tie.After-put-entries-line) → c.put-entries-line.result + left4 8 (start4 c).args.n (start4 c).args.m ≤ length c.put-entries-line.new.0
-room4 c = let e = start4 c in room_behind _ _ (left4 8 e.args.n e.args.m) _ (room3 c.before.before.before.before.before) _ _ c.put-entries-line.ensures.0 c.put-entries-line.auto.0
+room4 : (c : tie.After-put_entries_line-at_q) → c.put_entries_line-at_q.result + left4 8 c.args.n c.args.m ≤ length c.put_entries_line-at_q.new.0
+room4 c = room_behind _ _ (left4 8 c.args.n c.args.m) _ (room3 c.before.before.before.before.before) _ _ c.put_entries_line-at_q.ensures.0 c.put_entries_line-at_q.auto.0
 
-room5 : (c : tie.After-put-entries-line2) → c.put-entries-line2.result + left5 8 (start5 c).args.n (start5 c).args.m ≤ length c.put-entries-line2.new.0
-room5 c = let e = start5 c in room_behind _ _ (left5 8 e.args.n e.args.m) _ (room4 c.before.before.before.before.before) _ _ c.put-entries-line2.ensures.0 c.put-entries-line2.auto.0
+room5 : (c : tie.After-put_entries_line-at_h) → c.put_entries_line-at_h.result + left5 8 c.args.n c.args.m ≤ length c.put_entries_line-at_h.new.0
+room5 c = room_behind _ _ (left5 8 c.args.n c.args.m) _ (room4 c.before.before.before.before.before) _ _ c.put_entries_line-at_h.ensures.0 c.put_entries_line-at_h.auto.0
 
-room6 : (c : tie.After-put-entries-line3) → c.put-entries-line3.result + left6 8 (start6 c).args.n (start6 c).args.m ≤ length c.put-entries-line3.new.0
-room6 c = let e = start6 c in room_behind _ _ (left6 8 e.args.n e.args.m) _ (room5 c.before.before.before.before.before) _ _ c.put-entries-line3.ensures.0 c.put-entries-line3.auto.0
+room6 : (c : tie.After-put_entries_line-at_r) → c.put_entries_line-at_r.result + left6 8 c.args.n c.args.m ≤ length c.put_entries_line-at_r.new.0
+room6 c = room_behind _ _ (left6 8 c.args.n c.args.m) _ (room5 c.before.before.before.before.before) _ _ c.put_entries_line-at_r.ensures.0 c.put_entries_line-at_r.auto.0
 
 -- ---- how many entries the matrices have
 few : (e : tie.Start) → (1 ≤ e.args.n * e.args.n) × (e.args.n * e.args.n ≤ 256) × (1 ≤ e.args.m * e.args.n) × (e.args.m * e.args.n ≤ 256) × (1 ≤ e.args.m * e.args.m) × (e.args.m * e.args.m ≤ 256)
@@ -61,108 +61,93 @@ few e = entries_few e.args.n e.args.m e.requires.0 e.requires.1 e.requires.2 e.r
 slice-aggregate-put-count-line : tie.Need-slice-aggregate-put-count-line
 slice-aggregate-put-count-line c = search rules
 
-put-count-line-requires : tie.Need-put-count-line-requires
-put-count-line-requires c κs = let e = c.before.before.before.before.before.before.before in (lit< tt, room_here _ _ (left1 8 e.args.n e.args.m) _ (room_first 8 e.args.n e.args.m _ e.requires.8))
+put_count_line-at_states-requires : tie.Need-put_count_line-at_states-requires
+put_count_line-at_states-requires c κs = (lit< tt, room_here _ _ (left1 8 c.args.n c.args.m) _ (room_first 8 c.args.n c.args.m _ c.requires.8))
 
 slice-aggregate-put-count-line-2 : tie.Need-slice-aggregate-put-count-line-2
 slice-aggregate-put-count-line-2 c = search rules
 
-put-count-line-requires-2 : tie.Need-put-count-line-requires-2
-put-count-line-requires-2 c κs = let e = start1 c.before.before.before.before in (omega (arith, e.pre), room_here _ _ (left2 8 e.args.n e.args.m) _ (room1 c.before.before.before.before))
+put_count_line-at_observations-requires : tie.Need-put_count_line-at_observations-requires
+put_count_line-at_observations-requires c κs = (omega (arith, c.pre), room_here _ _ (left2 8 c.args.n c.args.m) _ (room1 c.before.before.before.before))
 
 slice-aggregate-put-count-line-3 : tie.Need-slice-aggregate-put-count-line-3
 slice-aggregate-put-count-line-3 c = search rules
 
-put-count-line-requires-3 : tie.Need-put-count-line-requires-3
-put-count-line-requires-3 c κs = let e = start2 c.before.before.before.before in (omega (arith, e.pre), room_here _ _ (left3 8 e.args.n e.args.m) _ (room2 c.before.before.before.before))
+put_count_line-at_a-requires : tie.Need-put_count_line-at_a-requires
+put_count_line-at_a-requires c κs = (omega (arith, c.pre), room_here _ _ (left3 8 c.args.n c.args.m) _ (room2 c.before.before.before.before))
 
 slice-aggregate-put-entries-line : tie.Need-slice-aggregate-put-entries-line
 slice-aggregate-put-entries-line c = search rules
 
-mul-put-entries-line : tie.Need-overflow-mul-put-entries-line
-mul-put-entries-line c = let e = start3 c.before.before.before.before in omega (arith, few e)
+overflow_mul-n : tie.Need-overflow_mul-n
+overflow_mul-n c = let e = start3 c.before.before.before.before in omega (arith, few e)
 
-put-entries-line-requires : tie.Need-put-entries-line-requires
-put-entries-line-requires c κs = let e = start3 c.before.before.before.before in (omega (arith, few e), omega (arith, e.pre), room_here _ _ (left4 8 e.args.n e.args.m) _ (room3 c.before.before.before.before))
+put_entries_line-at_q-requires : tie.Need-put_entries_line-at_q-requires
+put_entries_line-at_q-requires c κs = let e = start3 c.before.before.before.before in (omega (arith, few e), omega (arith, e.pre), room_here _ _ (left4 8 e.args.n e.args.m) _ (room3 c.before.before.before.before))
 
 slice-aggregate-put-entries-line-2 : tie.Need-slice-aggregate-put-entries-line-2
 slice-aggregate-put-entries-line-2 c = search rules
 
-mul-put-entries-line-2 : tie.Need-overflow-mul-put-entries-line-2
-mul-put-entries-line-2 c = let e = start4 c.before.before.before.before in omega (arith, few e)
+overflow_mul-n-2 : tie.Need-overflow_mul-n-2
+overflow_mul-n-2 c = let e = start4 c.before.before.before.before in omega (arith, few e)
 
-put-entries-line-requires-2 : tie.Need-put-entries-line-requires-2
-put-entries-line-requires-2 c κs = let e = start4 c.before.before.before.before in (omega (arith, few e), omega (arith, e.pre), room_here _ _ (left5 8 e.args.n e.args.m) _ (room4 c.before.before.before.before))
+put_entries_line-at_h-requires : tie.Need-put_entries_line-at_h-requires
+put_entries_line-at_h-requires c κs = let e = start4 c.before.before.before.before in (omega (arith, few e), omega (arith, e.pre), room_here _ _ (left5 8 e.args.n e.args.m) _ (room4 c.before.before.before.before))
 
 slice-aggregate-put-entries-line-3 : tie.Need-slice-aggregate-put-entries-line-3
 slice-aggregate-put-entries-line-3 c = search rules
 
-mul-put-entries-line-3 : tie.Need-overflow-mul-put-entries-line-3
-mul-put-entries-line-3 c = let e = start5 c.before.before.before.before in omega (arith, few e)
+overflow_mul-m : tie.Need-overflow_mul-m
+overflow_mul-m c = let e = start5 c.before.before.before.before in omega (arith, few e)
 
-put-entries-line-requires-3 : tie.Need-put-entries-line-requires-3
-put-entries-line-requires-3 c κs = let e = start5 c.before.before.before.before in (omega (arith, few e), omega (arith, e.pre), room_here _ _ (left6 8 e.args.n e.args.m) _ (room5 c.before.before.before.before))
+put_entries_line-at_r-requires : tie.Need-put_entries_line-at_r-requires
+put_entries_line-at_r-requires c κs = let e = start5 c.before.before.before.before in (omega (arith, few e), omega (arith, e.pre), room_here _ _ (left6 8 e.args.n e.args.m) _ (room5 c.before.before.before.before))
 
 slice-aggregate-put-entries-line-4 : tie.Need-slice-aggregate-put-entries-line-4
 slice-aggregate-put-entries-line-4 c = search rules
 
-mul-put-entries-line-4 : tie.Need-overflow-mul-put-entries-line-4
-mul-put-entries-line-4 c = let e = start6 c.before.before.before.before in omega (arith, few e)
+overflow_mul-m-2 : tie.Need-overflow_mul-m-2
+overflow_mul-m-2 c = let e = start6 c.before.before.before.before in omega (arith, few e)
 
-put-entries-line-requires-4 : tie.Need-put-entries-line-requires-4
-put-entries-line-requires-4 c κs = let e = start6 c.before.before.before.before in (omega (arith, few e), omega (arith, e.pre), room6 c.before.before.before.before)
+put_entries_line-requires : tie.Need-put_entries_line-requires
+put_entries_line-requires c κs = let e = start6 c.before.before.before.before in (omega (arith, few e), omega (arith, e.pre), room6 c.before.before.before.before)
 
-same_length : tie.Need-same-length
-same_length c =
-    let seven = c.before.before in
-    let six = seven.before.before.before.before.before in
-    let five = six.before.before.before.before.before in
-    let four = five.before.before.before.before.before in
-    let three = four.before.before.before.before.before in
-    let two = three.before.before.before.before.before in
-    let one = two.before.before.before.before.before in
-    seven.put-entries-line4.auto.0 ∙ six.put-entries-line3.auto.0 ∙ five.put-entries-line2.auto.0 ∙ four.put-entries-line.auto.0 ∙ three.put-count-line3.auto.0 ∙ two.put-count-line2.auto.0 ∙ one.put-count-line.auto.0
+shape_of-into : tie.Need-shape_of-into
+shape_of-into c =
+    c.put_entries_line.auto.0 ∙ c.put_entries_line-at_r.auto.0 ∙ c.put_entries_line-at_h.auto.0 ∙ c.put_entries_line-at_q.auto.0 ∙ c.put_count_line-at_a.auto.0 ∙ c.put_count_line-at_observations.auto.0 ∙ c.put_count_line-at_states.auto.0
 
 returns : tie.Need-returns
 returns c =
-    let seven = c.before.before in
-    let six = seven.before.before.before.before.before in
-    let five = six.before.before.before.before.before in
-    let four = five.before.before.before.before.before in
-    let three = four.before.before.before.before.before in
-    let two = three.before.before.before.before.before in
-    let one = two.before.before.before.before.before in
-    let e = start1 one in
-    card_put binary32 8 e.args.n e.args.m e.args.a.now e.args.q.now e.args.h.now e.args.r.now e.pre.0 e.pre.2 e.pre.4 e.pre.5 e.pre.6 e.args.into.now
-    one.put-count-line.ensures
-    two.put-count-line2.ensures
-    three.put-count-line3.ensures
-    four.put-entries-line.ensures
-    five.put-entries-line2.ensures
-    six.put-entries-line3.ensures
-    seven.put-entries-line4.ensures
+    card_put binary32 8 c.args.n c.args.m c.args.a.now c.args.q.now c.args.h.now c.args.r.now c.pre.0 c.pre.2 c.pre.4 c.pre.5 c.pre.6 c.args.into.now
+    c.put_count_line-at_states.ensures
+    c.put_count_line-at_observations.ensures
+    c.put_count_line-at_a.ensures
+    c.put_entries_line-at_q.ensures
+    c.put_entries_line-at_h.ensures
+    c.put_entries_line-at_r.ensures
+    c.put_entries_line.ensures
 
-pub put-card-spec : {M : Type 1} → statement M
-put-card-spec =
+pub put_card_spec : {M : Type 1} → statement M
+put_card_spec =
     tie.close
     (tie.spec
     slice-aggregate-put-count-line
-    put-count-line-requires
+    put_count_line-at_states-requires
     slice-aggregate-put-count-line-2
-    put-count-line-requires-2
+    put_count_line-at_observations-requires
     slice-aggregate-put-count-line-3
-    put-count-line-requires-3
+    put_count_line-at_a-requires
     slice-aggregate-put-entries-line
-    mul-put-entries-line
-    put-entries-line-requires
+    overflow_mul-n
+    put_entries_line-at_q-requires
     slice-aggregate-put-entries-line-2
-    mul-put-entries-line-2
-    put-entries-line-requires-2
+    overflow_mul-n-2
+    put_entries_line-at_h-requires
     slice-aggregate-put-entries-line-3
-    mul-put-entries-line-3
-    put-entries-line-requires-3
+    overflow_mul-m
+    put_entries_line-at_r-requires
     slice-aggregate-put-entries-line-4
-    mul-put-entries-line-4
-    put-entries-line-requires-4
-    same_length
+    overflow_mul-m-2
+    put_entries_line-requires
+    shape_of-into
     returns)

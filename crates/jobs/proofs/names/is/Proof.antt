@@ -6,51 +6,51 @@ use borrow.Author.Rules.{rules}
 use Rattle.jobs.proofs.names.is.Statement.{statement}
 use Rattle.jobs.proofs.names.is.Tie as tie
 
-abbrev invariant-loop : tie.invariant-loop
+abbrev invariant-loop : tie.invariant-loop-i
 invariant-loop word name i₀ i = length word ≡ length name
 
-abbrev decreases-loop : tie.decreases-loop
+abbrev decreases-loop : tie.decreases-loop-i
 decreases-loop word name i₀ i = length word - i
+
+returns-then-word-name : tie.Need-returns-then-word-name invariant-loop decreases-loop
+returns-then-word-name c = tt
+
+loop-i-init : tie.Need-loop-i-init invariant-loop decreases-loop
+loop-i-init c = search rules
+
+bounds-word-i : tie.Need-bounds-word-i invariant-loop decreases-loop
+bounds-word-i c = search rules
+
+bounds-name-i : tie.Need-bounds-name-i invariant-loop decreases-loop
+bounds-name-i c = search rules
+
+returns-then-word-i : tie.Need-returns-then-word-i invariant-loop decreases-loop
+returns-then-word-i c = tt
+
+overflow_add-i : tie.Need-overflow_add-i invariant-loop decreases-loop
+overflow_add-i c = search rules
+
+loop-i-smaller : tie.Need-loop-i-smaller invariant-loop decreases-loop
+loop-i-smaller c = search rules
+
+loop-i-preserved : tie.Need-loop-i-preserved invariant-loop decreases-loop
+loop-i-preserved c = search rules
 
 returns : tie.Need-returns invariant-loop decreases-loop
 returns c = tt
 
-loop-holds : tie.Need-loop-init invariant-loop decreases-loop
-loop-holds c = search rules
-
-shared-slice-read-if2 : tie.Need-shared-slice-read-if2 invariant-loop decreases-loop
-shared-slice-read-if2 c = search rules
-
-shared-slice-read-if2-2 : tie.Need-shared-slice-read-if2-2 invariant-loop decreases-loop
-shared-slice-read-if2-2 c = search rules
-
-returns-2 : tie.Need-returns-2 invariant-loop decreases-loop
-returns-2 c = tt
-
-add-i : tie.Need-overflow-add-i invariant-loop decreases-loop
-add-i c = search rules
-
-loop-less : tie.Need-loop-smaller invariant-loop decreases-loop
-loop-less c = search rules
-
-loop-again : tie.Need-loop-preserved invariant-loop decreases-loop
-loop-again c = search rules
-
-returns-3 : tie.Need-returns-3 invariant-loop decreases-loop
-returns-3 c = tt
-
-pub is-spec : {M : Type 1} → statement M
-is-spec =
+pub is_spec : {M : Type 1} → statement M
+is_spec =
     tie.close
     (tie.spec
     invariant-loop
     decreases-loop
-    returns
-    loop-holds
-    shared-slice-read-if2
-    shared-slice-read-if2-2
-    returns-2
-    add-i
-    loop-less
-    loop-again
-    returns-3)
+    returns-then-word-name
+    loop-i-init
+    bounds-word-i
+    bounds-name-i
+    returns-then-word-i
+    overflow_add-i
+    loop-i-smaller
+    loop-i-preserved
+    returns)

@@ -5,63 +5,63 @@ use borrow.Author.Rules.{rules}
 use Rattle.jobs.proofs.names.place_of.Statement.{statement}
 use Rattle.jobs.proofs.names.place_of.Tie as tie
 
-abbrev invariant-loop : tie.invariant-loop
+abbrev invariant-loop : tie.invariant-loop-at
 invariant-loop word list place₀ at₀ place at = (place ≤ at) × (at ≤ length list + 1)
 
-abbrev decreases-loop : tie.decreases-loop
+abbrev decreases-loop : tie.decreases-loop-at
 decreases-loop word list place₀ at₀ place at = length list + 1 - at
 
-loop-holds : tie.Need-loop-init invariant-loop decreases-loop
-loop-holds c = search rules
+loop-at-init : tie.Need-loop-at-init invariant-loop decreases-loop
+loop-at-init c = search rules
 
-line-end-requires : tie.Need-line-end-requires invariant-loop decreases-loop
-line-end-requires c κs = search rules
+line_end-end-requires : tie.Need-line_end-end-requires invariant-loop decreases-loop
+line_end-end-requires c κs = search rules
 
-sub_is : tie.Need-overflow-sub-is invariant-loop decreases-loop
-sub_is c = search rules
+slice_bounds-is-count : tie.Need-slice_bounds-is-count invariant-loop decreases-loop
+slice_bounds-is-count c = search rules
 
-part-is-start : tie.Need-slice-bounds-is-start invariant-loop decreases-loop
-part-is-start c = search rules
+slice-bounds-is-start : tie.Need-slice-bounds-is-start invariant-loop decreases-loop
+slice-bounds-is-start c = search rules
 
-part-is-end : tie.Need-slice-bounds-is-end invariant-loop decreases-loop
-part-is-end c = search rules
+slice-bounds-is-end : tie.Need-slice-bounds-is-end invariant-loop decreases-loop
+slice-bounds-is-end c = search rules
 
 is-requires : tie.Need-is-requires invariant-loop decreases-loop
 is-requires c κs = search rules
 
+returns-then-is : tie.Need-returns-then-is invariant-loop decreases-loop
+returns-then-is c = search rules
+
+overflow_add-place : tie.Need-overflow_add-place invariant-loop decreases-loop
+overflow_add-place c = search rules
+
+overflow_add-at : tie.Need-overflow_add-at invariant-loop decreases-loop
+overflow_add-at c = search rules
+
+loop-at-smaller : tie.Need-loop-at-smaller invariant-loop decreases-loop
+loop-at-smaller c = search rules
+
+loop-at-preserved : tie.Need-loop-at-preserved invariant-loop decreases-loop
+loop-at-preserved c = search rules
+
 returns : tie.Need-returns invariant-loop decreases-loop
 returns c = search rules
 
-add-place : tie.Need-overflow-add-place invariant-loop decreases-loop
-add-place c = search rules
-
-add_at : tie.Need-overflow-add-at invariant-loop decreases-loop
-add_at c = search rules
-
-loop-less : tie.Need-loop-smaller invariant-loop decreases-loop
-loop-less c = search rules
-
-loop-again : tie.Need-loop-preserved invariant-loop decreases-loop
-loop-again c = search rules
-
-returns-2 : tie.Need-returns-2 invariant-loop decreases-loop
-returns-2 c = search rules
-
-pub place-of-spec : {M : Type 1} → statement M
-place-of-spec =
+pub place_of_spec : {M : Type 1} → statement M
+place_of_spec =
     tie.close
     (tie.spec
     invariant-loop
     decreases-loop
-    loop-holds
-    line-end-requires
-    sub_is
-    part-is-start
-    part-is-end
+    loop-at-init
+    line_end-end-requires
+    slice_bounds-is-count
+    slice-bounds-is-start
+    slice-bounds-is-end
     is-requires
-    returns
-    add-place
-    add_at
-    loop-less
-    loop-again
-    returns-2)
+    returns-then-is
+    overflow_add-place
+    overflow_add-at
+    loop-at-smaller
+    loop-at-preserved
+    returns)

@@ -7,14 +7,14 @@ use Rattle.one_state.specs.OneState.{with_blind}
 use Rattle.one_state.proofs.OneState.blinded.Statement.{statement}
 use Rattle.one_state.proofs.OneState.blinded.Tie as tie
 
-add-next : tie.Need-overflow-add-next
-add-next c = search rules
+overflow_add-next : tie.Need-overflow_add-next
+overflow_add-next c = search rules
 
-returns : tie.Need-returns
-returns c = ap (with_blind c.before.before.before.args.self) (sym (min-eq_left (omega arith)))
+returns-then-self-lt255 : tie.Need-returns-then-self-lt255
+returns-then-self-lt255 c = ap (with_blind c.args.self) (sym (min-eq_left (omega arith)))
 
-returns-2 : tie.Need-returns-2
-returns-2 c = ap (with_blind c.before.before.args.self) (sym (min-eq_right (omega arith)))
+returns-else-self-lt255 : tie.Need-returns-else-self-lt255
+returns-else-self-lt255 c = ap (with_blind c.args.self) (sym (min-eq_right (omega arith)))
 
-pub blinded-spec : {M : Type 1} → statement M
-blinded-spec = tie.close (tie.spec add-next returns returns-2)
+pub blinded_spec : {M : Type 1} → statement M
+blinded_spec = tie.close (tie.spec overflow_add-next returns-then-self-lt255 returns-else-self-lt255)

@@ -11,67 +11,62 @@ use Rattle.one_state.proofs.Cases.{refuses, refused, goes_through, comes_back_x,
 use Rattle.one_state.proofs.OneState.correct.Statement.{statement}
 use Rattle.one_state.proofs.OneState.correct.Tie as tie
 
-pivot-of-requires : tie.Need-pivot-of-requires
-pivot-of-requires c κs = search rules
+pivot_of-requires : tie.Need-pivot_of-requires
+pivot_of-requires c κs = search rules
 
-enum-known-d : tie.Need-enum-known-d
-enum-known-d c = search rules
+enum_known-d : tie.Need-enum_known-d
+enum_known-d c = search rules
 
-is-finite-requires : tie.Need-is-finite-requires
-is-finite-requires c κs = search rules
+is_finite-requires : tie.Need-is_finite-requires
+is_finite-requires c κs = search rules
 
-is-finite-requires-2 : tie.Need-is-finite-requires-2
-is-finite-requires-2 c κs = search rules
+is_finite-requires-then-is_finite : tie.Need-is_finite-requires-then-is_finite
+is_finite-requires-then-is_finite c κs = search rules
 
 blinded-requires : tie.Need-blinded-requires
 blinded-requires c κs = search rules
 
-enum_told : tie.Need-enum-told
-enum_told c = search rules
+enum_told-1 : tie.Need-enum_told-1
+enum_told-1 c = search rules
 
-blinded-requires-2 : tie.Need-blinded-requires-2
-blinded-requires-2 c κs = search rules
+blinded-requires-in-Refused : tie.Need-blinded-requires-in-Refused
+blinded-requires-in-Refused c κs = search rules
 
-returns : tie.Need-returns
+returns-then-is_finite-2 : tie.Need-returns-then-is_finite-2
 unfolding of_bits
-returns c =
-    let b = c.before.before.before.before.before.before.before in
-    let m = b.before.before.args in
-    let tested = c.before.before.before in
-    goes_through m.self m.z _ _ (sym b.pivot-of.ensures ∙ tested.before.before.d.given.1) _ _ tested.is_finite.ensures c.before.is-finite2.ensures c.before.before.if1.true c.if2.true
+returns-then-is_finite-2 c =
+    let m = c.args in
+    goes_through m.self m.z _ _ (sym c.pivot_of.ensures ∙ c.in-Accepted.is) _ _ c.is_finite.ensures c.is_finite-then-is_finite.ensures c.if-is_finite.true c.if-is_finite-2.true
 
-returns-2 : tie.Need-returns-2
+returns-else-is_finite : tie.Need-returns-else-is_finite
 unfolding of_bits
-returns-2 c =
-    let b = c.before.before.before.before.before.before in
-    let m = b.before.before.args in
-    let tested = c.before.before in
-    let step = sym b.pivot-of.ensures ∙ tested.before.before.d.given.1 in
+returns-else-is_finite c =
+    let m = c.args in
+    let step = sym c.pivot_of.ensures ∙ c.in-Accepted.is in
     ap (λ (s : OneState). Refused s NotFinite) c.blinded.ensures
     ∙ ⊎_elim
-    (λ w. comes_back_p m.self m.z _ _ step _ _ tested.is_finite.ensures w.1.ensures w.0.taken w.2.left)
-    (λ w. comes_back_x m.self m.z _ _ step _ tested.is_finite.ensures w.left)
-    c.before.if1.branch
+    (λ w. comes_back_p m.self m.z _ _ step _ _ c.is_finite.ensures w.1.ensures w.0.taken w.2.left)
+    (λ w. comes_back_x m.self m.z _ _ step _ c.is_finite.ensures w.left)
+    c.else-is_finite.branch
 
-returns-3 : tie.Need-returns-3
+returns-in-Refused : tie.Need-returns-in-Refused
 unfolding of_bits
-returns-3 c =
-    let b = c.before.before.before in
-    let m = b.before.before.args in
-    ap (λ (s : OneState). Refused s (Pivot 0)) c.blinded2.ensures
-    ∙ sym (refused m.self m.z (refuses binary32 _ _ (sym b.pivot-of.ensures ∙ c.before.enum_told.given.1)))
+returns-in-Refused c =
+    let m = c.args in
+    ap (λ (s : OneState). Refused s (Pivot 0)) c.blinded-in-Refused.ensures
+    ∙ sym (refused m.self m.z (refuses binary32 _ _ (sym c.pivot_of.ensures ∙ c.in-Refused.is)))
 
-pub correct-spec : {M : Type 1} → statement M
-correct-spec =
+pub correct_spec : {M : Type 1} → statement M
+correct_spec =
     tie.close
     (tie.spec
-    pivot-of-requires
-    enum-known-d
-    is-finite-requires
-    is-finite-requires-2
+    pivot_of-requires
+    enum_known-d
+    is_finite-requires
+    is_finite-requires-then-is_finite
     blinded-requires
-    enum_told
-    blinded-requires-2
-    returns
-    returns-2
-    returns-3)
+    enum_told-1
+    blinded-requires-in-Refused
+    returns-then-is_finite-2
+    returns-else-is_finite
+    returns-in-Refused)

@@ -9,5 +9,5 @@ returns : tie.Need-returns
 unfolding predicted of_bits
 returns c = refl
 
-pub predict-spec : {M : Type 1} → statement M
-predict-spec = tie.close (tie.spec returns)
+pub predict_spec : {M : Type 1} → statement M
+predict_spec = tie.close (tie.spec returns)
