@@ -122,10 +122,10 @@ def new_names(declared, defs):
             continue
         if not re.search(r"[A-Za-z]", old):
             continue
-        if old.count("-") == 1 and all(it in defs or it in WORDS for it in old.split("-")):
+        if old.count("-") == 1 and all(len(it) > 1 and (it in defs or it in WORDS) for it in old.split("-")):
             new = "-".join(lower_parts(snake(it)) for it in old.split("-"))
         else:
-            new = lower_parts(snake(old.replace("-", "_").replace("PHt", "Pht")))
+            new = lower_parts(snake(old.replace("-", "_").replace("PHt", "pht")))
         if new != old:
             table[old] = new
     # a lemma that would have a definition's name

@@ -51,18 +51,18 @@ module _ (f : Format) (n m : ℕ) (b e : Buffers) where
         hp_after = hp;
         s_after = s;
         s_inv_after = rw told vi;
-        Pht_after = rw told vt;
+        pht_after = rw told vt;
         k_after = rw told vk;
         x_after = vx;
         khp_after = rw told vh;
         p_after = vp;
       }
 
-  module _ (S-fits : m * m ≤ length b.S) (K-fits : n * m ≤ length b.K) (HP-fits : m * n ≤ length b.HP) (hp : e.HP ≡ grid m n (hp_of f n H P) b.HP) (s : e.S ≡ grid m m (factor_of f n m H P R) b.S) where
+  module _ (s_fits : m * m ≤ length b.S) (k_fits : n * m ≤ length b.K) (HP-fits : m * n ≤ length b.HP) (hp : e.HP ≡ grid m n (hp_of f n H P) b.HP) (s : e.S ≡ grid m m (factor_of f n m H P R) b.S) where
     -- the inverse goes by the factor
     inverse_same : SameEntries m m (inverse f m (cell m e.S) I) (inverse_of f n m H P R I)
     inverse_same r c hr hc =
-        inverse-lower f m (cell m e.S) (factor_of f n m H P R) (λ i j h k. written m m (factor_of f n m H P R) b.S e.S S-fits s i j k (omega arith)) I I r c hr hc
+        inverse-lower f m (cell m e.S) (factor_of f n m H P R) (λ i j h k. written m m (factor_of f n m H P R) b.S e.S s_fits s i j k (omega arith)) I I r c hr hc
 
     -- every pivot is taken, and v says whether the new x and P are finite
     pub gain-taken : (i : ℕ) (v : Answer) → m ≤ i → i ≡ pivot_of f n m H P R
@@ -78,23 +78,23 @@ module _ (f : Format) (n m : ℕ) (b e : Buffers) where
         let none : pivot_answer i m ≡ Done = simp (le-ltb i m h) in
         let told : pivots_answer f n m b ≡ Done = ap (λ (k : ℕ). pivot_answer k m) (sym q) ∙ none in
         let G = gain_of f n m H P R I in
-        let K-same : SameEntries n m (cell m e.K) G = written n m G b.K e.K K-fits vk in
+        let k_same : SameEntries n m (cell m e.K) G = written n m G b.K e.K k_fits vk in
         let KHP-same : SameEntries n n (times f m (cell m e.K) (cell n e.HP)) (khp_of f n m G H P) =
-        times_alike f n m n (cell m e.K) G (cell n e.HP) (hp_of f n H P) K-same (written m n (hp_of f n H P) b.HP e.HP HP-fits hp) in
+        times_alike f n m n (cell m e.K) G (cell n e.HP) (hp_of f n H P) k_same (written m n (hp_of f n H P) b.HP e.HP HP-fits hp) in
         let x-same : (r : ℕ) → r < n → new_x f m (cell m e.K) (numbers b.x) (numbers b.y) r ≡ next_x f n m b r =
-        λ r hr. ap (add f (numbers b.x r)) (times_x_alike f n m (cell m e.K) G (numbers b.y) r hr K-same) in
-        let P-same : SameEntries n n (λ r c. sub f (P r c) (times f m (cell m e.K) (cell n e.HP) r c)) (next_p f n m b) =
+        λ r hr. ap (add f (numbers b.x r)) (times_x_alike f n m (cell m e.K) G (numbers b.y) r hr k_same) in
+        let p_same : SameEntries n n (λ r c. sub f (P r c) (times f m (cell m e.K) (cell n e.HP) r c)) (next_p f n m b) =
         λ r c hr hc. ap (sub f (P r c)) (KHP-same r c hr hc) in
         record {
-          answer = rw told (vv ∙ finite_alike n _ _ _ _ x-same P-same);
+          answer = rw told (vv ∙ finite_alike n _ _ _ _ x-same p_same);
           hp_after = hp;
           s_after = s;
           s_inv_after = rw told vi;
-          Pht_after = rw told vt;
+          pht_after = rw told vt;
           k_after = rw told vk;
           x_after = vx ∙ ap (λ (l : List Float). settled v l b.x) (run_ext 0 n _ _ b.x x-same);
           khp_after = rw told (vh ∙ grid_ext n n _ _ b.KHP KHP-same);
-          p_after = vp ∙ ap (λ (l : List Float). settled v l b.P) (grid_ext n n _ _ b.P P-same);
+          p_after = vp ∙ ap (λ (l : List Float). settled v l b.P) (grid_ext n n _ _ b.P p_same);
         }
 
     -- the same, where the inverse and the gain are told by what S holds
@@ -120,7 +120,7 @@ retold f n m g v b e z z' y' r = record {
   hp_after = r.hp_after;
   s_after = r.s_after;
   s_inv_after = r.s_inv_after;
-  Pht_after = r.Pht_after;
+  pht_after = r.pht_after;
   k_after = r.k_after;
   x_after = r.x_after;
   khp_after = r.khp_after;
@@ -137,7 +137,7 @@ module _ (f : Format) (n m : ℕ) (g v : Answer) (b e : Buffers) where
     hp_after = rw done r.hp_after;
     s_after = rw done r.s_after;
     s_inv_after = rw done r.s_inv_after;
-    Pht_after = rw done r.Pht_after;
+    pht_after = rw done r.pht_after;
     k_after = rw done r.k_after;
     x_after = r.x_after;
     khp_after = rw done r.khp_after;
@@ -151,7 +151,7 @@ at_the_door f n m g v b y q kept = subst (λ (w : Answer). Renewed f n m g w (wi
   hp_after = simp kept;
   s_after = simp kept;
   s_inv_after = simp kept;
-  Pht_after = simp kept;
+  pht_after = simp kept;
   k_after = simp kept;
   x_after = simp kept;
   khp_after = simp kept;

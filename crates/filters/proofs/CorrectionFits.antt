@@ -16,7 +16,7 @@ use Rattle.filters.specs.Lent.{Buffers, buffers, front_of, from_r_of, correct_an
 pub record Observed (n m lx lh lz ly : ℕ) : Type 0 where
   pub states : 1 ≤ n
   pub x_holds : n ≤ lx
-  pub H-holds : m * n ≤ lh
+  pub h_holds : m * n ≤ lh
   pub z_holds : m ≤ lz
   pub y_holds : m ≤ ly
 
@@ -30,15 +30,15 @@ held n m b s x P H l =
       observations = s.2.0;
       few_observations = s.2.1;
       x_holds = x;
-      P-holds = P;
-      H-holds = H;
-      R-holds = l.0;
+      p_holds = P;
+      h_holds = H;
+      r_holds = l.0;
       y_holds = l.1.0;
       s_holds = l.1.1.0;
       k_holds = l.1.1.1.0;
       s_inv_holds = k.0;
       hp_holds = k.1.0;
-      Pht_holds = k.1.1.0;
+      pht_holds = k.1.1.0;
       khp_holds = k.1.1.1.0;
     }
 
@@ -48,7 +48,7 @@ unfolding innovation_answer
 innovation_fits n m lx lh lz ly e =
     let h = fit (n ∷ m ∷ []) (lent n lx ∷ lent (m * n) lh ∷ lent m lz ∷ lent m ly ∷ []) [] e in
     let l = h.1 in
-    record { states = h.0.0; x_holds = l.0; H-holds = l.1.0; z_holds = l.1.1.0; y_holds = l.1.1.1.0 }
+    record { states = h.0.0; x_holds = l.0; h_holds = l.1.0; z_holds = l.1.1.0; y_holds = l.1.1.1.0 }
 
 -- So for an update.
 pub update_fits : (n m : ℕ) (b : Buffers) → is_done (update_answer n m b) ≡ true → Held n m b
@@ -81,14 +81,14 @@ held_with n m b y z h l = record {
   observations = h.observations;
   few_observations = h.few_observations;
   x_holds = h.x_holds;
-  P-holds = h.P-holds;
-  H-holds = h.H-holds;
-  R-holds = h.R-holds;
+  p_holds = h.p_holds;
+  h_holds = h.h_holds;
+  r_holds = h.r_holds;
   y_holds = l;
   s_holds = h.s_holds;
   k_holds = h.k_holds;
   s_inv_holds = h.s_inv_holds;
   hp_holds = h.hp_holds;
-  Pht_holds = h.Pht_holds;
+  pht_holds = h.pht_holds;
   khp_holds = h.khp_holds;
 }

@@ -44,7 +44,7 @@ module _ {f : Format} {n m : ℕ} (g v : Answer) (b e : Buffers) (r : Renewed f 
         K = rw no_pivot at r.k_after;
         s_inv = rw no_pivot at r.s_inv_after;
         HP = rw at_gate at r.hp_after;
-        PHt = rw no_pivot at r.Pht_after;
+        PHt = rw no_pivot at r.pht_after;
         KHP = rw no_pivot at r.khp_after;
       }
 

@@ -118,7 +118,7 @@ module _ (f : Format) (n m : ℕ) (b : Buffers) (v : Answer) (e : Buffers) (call
   pub update_leaves_finite : v ≡ Done → HeldFinite n e.x e.P
   update_leaves_finite q =
       let h = update_fits n m b (all_passed call.renewed q).0 in
-      renewed_finite f n m (update_answer n m b) v b e call.renewed h.x_holds h.P-holds q
+      renewed_finite f n m (update_answer n m b) v b e call.renewed h.x_holds h.p_holds q
 
   -- .. and was before.
   pub update_found_finite : v ≡ Done → HeldFinite n b.x b.P
@@ -140,7 +140,7 @@ module _ (f : Format) (n m : ℕ) (b : Buffers) (v : Answer) (e : Buffers) (call
   pub update_stays_finite : StaysFinite b.x e.x × StaysFinite b.P e.P
   update_stays_finite =
       renewed_stays f n m (update_answer n m b) v b e call.renewed
-      (λ d. let h = update_fits n m b d in (h.states, h.x_holds, h.P-holds))
+      (λ d. let h = update_fits n m b d in (h.states, h.x_holds, h.p_holds))
 
 -- ---- the correction
 
@@ -152,7 +152,7 @@ module _ (f : Format) (n m : ℕ) (b : Buffers) (v : Answer) (e : Buffers) (call
   pub correct_leaves_finite : v ≡ Done → HeldFinite n e.x e.P
   correct_leaves_finite q =
       let h = (correct_fits n m b (all_passed call.renewed q).0).0 in
-      renewed_finite f n m (correct_answer n m b) v given e call.renewed h.x_holds h.P-holds q
+      renewed_finite f n m (correct_answer n m b) v given e call.renewed h.x_holds h.p_holds q
 
   pub correct_found_finite : v ≡ Done → HeldFinite n b.x b.P
   correct_found_finite = renewed_was_finite f n m (correct_answer n m b) v given e call.renewed
@@ -175,4 +175,4 @@ module _ (f : Format) (n m : ℕ) (b : Buffers) (v : Answer) (e : Buffers) (call
   pub correct_stays_finite : StaysFinite b.x e.x × StaysFinite b.P e.P
   correct_stays_finite =
       renewed_stays f n m (correct_answer n m b) v given e call.renewed
-      (λ d. let h = (correct_fits n m b d).0 in (h.states, h.x_holds, h.P-holds))
+      (λ d. let h = (correct_fits n m b d).0 in (h.states, h.x_holds, h.p_holds))

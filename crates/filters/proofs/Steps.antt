@@ -35,9 +35,9 @@ pub summed :
     (f : Format) (n m : ℕ) (HP H R S S₁ : List Float) {S₂ : List Float} → m * m ≤ length S → S₁ ≡ grid m m (product_t f n HP H) S
     → S₂ ≡ run 0 (m * m) (λ j. add f (get_or S₁ j nan) (get_or R j nan)) S₁
     → S₂ ≡ grid m m (λ r c. add f (product_t f n HP H r c) (cell m R r c)) S
-summed f n m HP H R S S₁ S-fits e₁ e₂ =
+summed f n m HP H R S S₁ s_fits e₁ e₂ =
     e₂ ∙ entrywise m (add f) S₁ R S₁
-    ∙ regrid m (λ e r c. add f (e r c) (cell m R r c)) (product_t f n HP H) S S₁ S-fits (λ e g s r c hr hc. ap (λ (x : Float). add f x (cell m R r c)) (s r c hr hc)) e₁
+    ∙ regrid m (λ e r c. add f (e r c) (cell m R r c)) (product_t f n HP H) S S₁ s_fits (λ e g s r c hr hc. ap (λ (x : Float). add f x (cell m R r c)) (s r c hr hc)) e₁
 
 -- temp_HP = H·P, S = temp_HP·Hᵀ + R, S decomposed: the index, and the factor.
 pub residual :
@@ -45,14 +45,14 @@ pub residual :
     → HP' ≡ grid m n (product f n n H P) HP → S₁ ≡ grid m m (λ r c. add f (product_t f n HP' H r c) (cell m R r c)) S
     → i ≡ reached f m (cell m S₁) → S₂ ≡ grid m m (decomposed f m (cell m S₁)) S₁
     → (i ≡ pivot_of f n m (cell n H) (cell n P) (cell m R)) × (S₂ ≡ grid m m (factor_of f n m (cell n H) (cell n P) (cell m R)) S)
-residual f n m P H R HP S HP' S₁ HP-fits S-fits e₁ e₂ e₃ e₄ =
+residual f n m P H R HP S HP' S₁ HP-fits s_fits e₁ e₂ e₃ e₄ =
     let sum_of : S₁ ≡ grid m m (residual_of f n (cell n H) (cell n P) (cell m R)) S =
     e₂
     ∙ grid_ext m m _ _ S
     (λ r c hr hc. ap (λ (x : Float). add f x (cell m R r c))
     (times_t_alike f m n m (cell n HP') (hp_of f n (cell n H) (cell n P)) (cell n H) (cell n H) (written m n _ HP HP' HP-fits e₁) (λ r c hr hc. refl) r c hr hc)) in (
-      e₃ ∙ reached_local f m (cell m S₁) _ (written m m _ S S₁ S-fits sum_of),
-      e₄ ∙ regrid m (decomposed f m) _ S S₁ S-fits (λ e g s. decomposed_local f m e g s) sum_of,
+      e₃ ∙ reached_local f m (cell m S₁) _ (written m m _ S S₁ s_fits sum_of),
+      e₄ ∙ regrid m (decomposed f m) _ S S₁ s_fits (λ e g s. decomposed_local f m e g s) sum_of,
     )
 
 -- K = temp_PHt·temp_S_inv.
@@ -60,8 +60,8 @@ pub gain :
     (f : Format) (n m : ℕ) (P H S I K PHt I' PHt' : List Float) {K' : List Float} → m * m ≤ length I → n * m ≤ length PHt
     → I' ≡ grid m m (inverse f m (cell m S) (cell m I)) I → PHt' ≡ grid n m (product_t f n P H) PHt → K' ≡ grid n m (product f m m PHt' I') K
     → K' ≡ grid n m (times f m (pht_of f n (cell n H) (cell n P)) (inverse f m (cell m S) (cell m I))) K
-gain f n m P H S I K PHt I' PHt' I-fits PHt-fits e₁ e₂ e₃ =
-    e₃ ∙ grid_ext n m _ _ K (times_alike f n m m (cell m PHt') _ (cell m I') _ (written n m _ PHt PHt' PHt-fits e₂) (written m m _ I I' I-fits e₁))
+gain f n m P H S I K PHt I' PHt' i_fits PHt-fits e₁ e₂ e₃ =
+    e₃ ∙ grid_ext n m _ _ K (times_alike f n m m (cell m PHt') _ (cell m I') _ (written n m _ PHt PHt' PHt-fits e₂) (written m m _ I I' i_fits e₁))
 
 -- temp_KHP = K·temp_HP, and K·y aside; then x + K·y and P − temp_KHP are tested, and stored where all of both is finite.
 module _ (f : Format) (n m : ℕ) (x P y K HP KHP ky ky' KHP' : List Float) (ky-fits : n ≤ length ky) (KHP-fits : n * n ≤ length KHP)

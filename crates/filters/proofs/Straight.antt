@@ -72,23 +72,23 @@ module _ (f : Format) (n m : ℕ) (b e : Buffers) (J : ℕ → ℕ → Float) (Y
       → e.x ≡ settled v (run 0 n X b.x) b.x
       → e.P ≡ settled v (grid n n N b.P) b.P
       → Renewed f n m Done v b e
-  renewed_by v y fits told none J-same vv hp s vi vt vk vh vx vp =
+  renewed_by v y fits told none j_same vv hp s vi vt vk vh vx vp =
       let G = gain_of f n m H P R I in
-      let K-same : SameEntries n m K G = times_alike f n m m (pht_of f n H P) (pht_of f n H P) J (inverse_of f n m H P R I) (λ r c hr hc. refl) J-same in
-      let KHP-same : SameEntries n n (khp_of f n m K H P) (khp_of f n m G H P) = times_alike f n m n K G (hp_of f n H P) (hp_of f n H P) K-same (λ r c hr hc. refl) in
+      let k_same : SameEntries n m K G = times_alike f n m m (pht_of f n H P) (pht_of f n H P) J (inverse_of f n m H P R I) (λ r c hr hc. refl) j_same in
+      let KHP-same : SameEntries n n (khp_of f n m K H P) (khp_of f n m G H P) = times_alike f n m n K G (hp_of f n H P) (hp_of f n H P) k_same (λ r c hr hc. refl) in
       let x-same : (r : ℕ) → r < n → X r ≡ next_x f n m b r =
-      λ r hr. ap (add f (numbers b.x r)) (first_alike f (K r) Y (G r) (numbers b.y) m (λ k h. K-same r k hr h) (λ k h. sym (front-cell m Y y b.y k h fits told))) in
-      let P-same : SameEntries n n N (next_p f n m b) = λ r c hr hc. ap (sub f (P r c)) (KHP-same r c hr hc) in
+      λ r hr. ap (add f (numbers b.x r)) (first_alike f (K r) Y (G r) (numbers b.y) m (λ k h. k_same r k hr h) (λ k h. sym (front-cell m Y y b.y k h fits told))) in
+      let p_same : SameEntries n n N (next_p f n m b) = λ r c hr hc. ap (sub f (P r c)) (KHP-same r c hr hc) in
       record {
-        answer = rw none (vv.told ∙ finite_alike n _ _ _ _ x-same P-same);
+        answer = rw none (vv.told ∙ finite_alike n _ _ _ _ x-same p_same);
         hp_after = hp;
         s_after = s;
-        s_inv_after = rw none (vi ∙ grid_ext m m _ _ b.s_inv J-same);
-        Pht_after = rw none vt;
-        k_after = rw none (vk ∙ grid_ext n m _ _ b.K K-same);
+        s_inv_after = rw none (vi ∙ grid_ext m m _ _ b.s_inv j_same);
+        pht_after = rw none vt;
+        k_after = rw none (vk ∙ grid_ext n m _ _ b.K k_same);
         x_after = vx ∙ ap (λ (l : List Float). settled v l b.x) (run_ext 0 n _ _ b.x x-same);
         khp_after = rw none (vh ∙ grid_ext n n _ _ b.KHP KHP-same);
-        p_after = vp ∙ ap (λ (l : List Float). settled v l b.P) (grid_ext n n _ _ b.P P-same);
+        p_after = vp ∙ ap (λ (l : List Float). settled v l b.P) (grid_ext n n _ _ b.P p_same);
       }
 
 -- ---- a matrix of one entry
@@ -164,11 +164,11 @@ module _ (f : Format) (n : ℕ) (b e : Buffers) where
     unfolding run grid
     renewed_by_one v l y fits told t root recip vv hp s vi vt vk vh vx vp =
         let L = decomposed f 1 residual in
-        let L-is : L 0 0 ≡ l = root_of_one f residual t ∙ sym root in
-        let same : inverted_one f d ≡ inverse f 1 L (cell 1 b.s_inv) 0 0 = ap (inverted_one f) (recip ∙ ap (recip_of f) (sym L-is)) ∙ sym (inverse_of_one f L (cell 1 b.s_inv)) in
+        let l_is : L 0 0 ≡ l = root_of_one f residual t ∙ sym root in
+        let same : inverted_one f d ≡ inverse f 1 L (cell 1 b.s_inv) 0 0 = ap (inverted_one f) (recip ∙ ap (recip_of f) (sym l_is)) ∙ sym (inverse_of_one f L (cell 1 b.s_inv)) in
         renewed_by f n 1 b e J Y v y fits told (none_of_one f residual t)
         (one_same J (inverse f 1 L (cell 1 b.s_inv)) same)
-        vv hp (s ∙ ap (set b.S 0) (sym L-is)) vi vt vk vh vx vp
+        vv hp (s ∙ ap (set b.S 0) (sym l_is)) vi vt vk vh vx vp
 
 -- ---- the last test, of the new x and P, as the code makes it: passed, or not
 

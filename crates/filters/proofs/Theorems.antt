@@ -47,7 +47,7 @@ renewed_4 {f} {n} {m} {g} b y i r past q s =
       P = rw no at r.p_after;
       K = rw stopped at r.k_after;
       s_inv = rw stopped at r.s_inv_after;
-      PHt = rw stopped at r.Pht_after;
+      PHt = rw stopped at r.pht_after;
       KHP = rw stopped at r.khp_after;
       y_is = s;
       HP = rw past at r.hp_after;
@@ -75,7 +75,7 @@ renewed_worked {f} {n} {m} {g} b y r past q s =
       HP = rw past at r.hp_after;
       S = rw past at r.s_after;
       s_inv = rw taken at r.s_inv_after;
-      PHt = rw taken at r.Pht_after;
+      PHt = rw taken at r.pht_after;
       K = rw taken at r.k_after;
       KHP = rw taken at r.khp_after;
     }
@@ -128,7 +128,7 @@ both_past g h v w b e d p q r s y =
       K = (rw p at r.k_after) ∙ sym (rw q at s.k_after);
       s_inv = (rw p at r.s_inv_after) ∙ sym (rw q at s.s_inv_after);
       HP = (rw p at r.hp_after) ∙ sym (rw q at s.hp_after);
-      PHt = (rw p at r.Pht_after) ∙ sym (rw q at s.Pht_after);
+      PHt = (rw p at r.pht_after) ∙ sym (rw q at s.pht_after);
       KHP = (rw p at r.khp_after) ∙ sym (rw q at s.khp_after);
     }
 

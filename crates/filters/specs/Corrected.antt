@@ -58,7 +58,7 @@ module _ (f : Format) (n m : ℕ) (g v : Answer) (b : Buffers) where
     pub hp_after : e.HP ≡ settled g (grid m n (hp_of f n H P) b.HP) b.HP
     pub s_after : e.S ≡ settled g (grid m m (factor_of f n m H P R) b.S) b.S
     pub s_inv_after : e.s_inv ≡ settled u (grid m m (inverse_of f n m H P R (cell m b.s_inv)) b.s_inv) b.s_inv
-    pub Pht_after : e.PHt ≡ settled u (grid n m (pht_of f n H P) b.PHt) b.PHt
+    pub pht_after : e.PHt ≡ settled u (grid n m (pht_of f n H P) b.PHt) b.PHt
     pub k_after : e.K ≡ settled u (grid n m (gain_in f n m b) b.K) b.K
     pub x_after : e.x ≡ settled v (run 0 n (next_x f n m b) b.x) b.x
     pub khp_after : e.KHP ≡ settled u (grid n n (khp_of f n m (gain_in f n m b) H P) b.KHP) b.KHP

@@ -61,13 +61,13 @@ pub record Held (n m : ℕ) (b : Buffers) : Type 0 where
   pub observations : 1 ≤ m
   pub few_observations : m ≤ 16
   pub x_holds : n ≤ length b.x
-  pub P-holds : n * n ≤ length b.P
-  pub H-holds : m * n ≤ length b.H
-  pub R-holds : m * m ≤ length b.R
+  pub p_holds : n * n ≤ length b.P
+  pub h_holds : m * n ≤ length b.H
+  pub r_holds : m * m ≤ length b.R
   pub y_holds : m ≤ length b.y
   pub s_holds : m * m ≤ length b.S
   pub k_holds : n * m ≤ length b.K
   pub s_inv_holds : m * m ≤ length b.s_inv
   pub hp_holds : m * n ≤ length b.HP
-  pub Pht_holds : n * m ≤ length b.PHt
+  pub pht_holds : n * m ≤ length b.PHt
   pub khp_holds : n * n ≤ length b.KHP

@@ -172,7 +172,7 @@ module _ {b : Buffers} {z : List Float} {o : Operands} {s : Seen} {root : Root} 
       hp_after = hp_left b.HP e.HP vg;
       s_after = s_left b.S e.S vs;
       s_inv_after = rw told (done.s_inv_after ∙ ap (λ (x : Four). run 0 4 (in_four x) b.s_inv) i_is ∙ square_put _ b.s_inv);
-      Pht_after = rw told (done.Pht_after ∙ ap (λ (x : Eight). grid 2 4 (in_wide x) b.PHt) f_is ∙ tall_put _ b.PHt);
+      pht_after = rw told (done.pht_after ∙ ap (λ (x : Eight). grid 2 4 (in_wide x) b.PHt) f_is ∙ tall_put _ b.PHt);
       k_after = rw told (done.k_after ∙ ap (λ (x : Eight). grid 2 4 (in_wide x) b.K) k_is ∙ tall_put _ b.K);
       x_after = done.x_after ∙ ap (λ (x : Four). settled v (run 0 4 (in_four x) b.x) b.x) w_is ∙ ap (λ (j : List Float). settled v j b.x) (four_put _ b.x);
       khp_after = rw told (done.khp_after ∙ ap (λ (x : Sixteen). grid 4 4 (in_large x) b.KHP) t_is ∙ large_put _ b.KHP);

@@ -40,7 +40,7 @@ module _
   finished v l e a vi vf vk vt vx vp = record {
     answer = a ∙ ap₂ (λ (x : Four) (p : Sixteen). cond (fine x p) Done NotFinite) w_in n_in;
     s_inv_after = vi ∙ ap (λ (x : Four). run 0 4 (in_four x) l.s_inv) qg.0;
-    Pht_after = vf ∙ ap (λ (x : Eight). grid 2 4 (in_wide x) l.PHt) qg.1;
+    pht_after = vf ∙ ap (λ (x : Eight). grid 2 4 (in_wide x) l.PHt) qg.1;
     k_after = vk ∙ ap (λ (x : Eight). grid 2 4 (in_wide x) l.K) k_in;
     khp_after = vt ∙ ap (λ (x : Sixteen). grid 4 4 (in_large x) l.KHP) t_in;
     x_after = vx ∙ ap (λ (x : Four). settled v (run 0 4 (in_four x) l.x) l.x) w_in;

@@ -33,7 +33,7 @@ module _ (b : Operands) (s : Seen) (root : Root) where
   pub record Finished (v : Answer) (l e : Buffers) : Type 0 where
     pub answer : v ≡ cond (fine new_x_in new_p_in) Done NotFinite
     pub s_inv_after : e.s_inv ≡ run 0 4 (in_four inverse_in) l.s_inv
-    pub Pht_after : e.PHt ≡ grid 2 4 (in_wide (crossed b.p b.h)) l.PHt
+    pub pht_after : e.PHt ≡ grid 2 4 (in_wide (crossed b.p b.h)) l.PHt
     pub k_after : e.K ≡ grid 2 4 (in_wide gain_in) l.K
     pub khp_after : e.KHP ≡ grid 4 4 (in_large spread_in) l.KHP
     pub x_after : e.x ≡ settled v (run 0 4 (in_four new_x_in) l.x) l.x

@@ -48,10 +48,10 @@ module _ (A : ℕ → ℕ → Float) {a : Sixteen} (a-is : a ≡ large A) where
     temp_left l e-is = e-is ∙ ap (λ (w : Sixteen). grid 4 4 (in_large w) l) made ∙ large_put _ l
 
     -- P, from the turned A in b and Q in q
-    pub P-left :
+    pub p_left :
         (Q : ℕ → ℕ → Float) {b q n : Sixteen} → b ≡ transposed a → q ≡ large Q → n ≡ all_plus (all_times t b) q
         → (l : List Float) {e : List Float} → e ≡ grid 4 4 (in_large n) l
         → e ≡ grid 4 4 (λ r c. add binary32 (times_t binary32 4 (times binary32 4 A P) A r c) (Q r c)) l
-    P-left Q b-is q-is n_is l e-is =
+    p_left Q b-is q-is n_is l e-is =
         let across = ap₂ all_times made (b-is ∙ ap transposed a-is) ∙ across_of (times binary32 4 A P) A in
         e-is ∙ ap (λ (w : Sixteen). grid 4 4 (in_large w) l) (n_is ∙ ap₂ all_plus across q-is ∙ plus_of (times_t binary32 4 (times binary32 4 A P) A) Q) ∙ large_put _ l

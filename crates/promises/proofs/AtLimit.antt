@@ -88,7 +88,7 @@ after : Corrected binary32 2 0 buffers (Size 1) buffers
 unfolding correct_answer
 after = record {
   y_after = refl;
-  renewed = record { answer = refl; hp_after = refl; s_after = refl; s_inv_after = refl; Pht_after = refl; k_after = refl; x_after = refl; khp_after = refl; p_after = refl };
+  renewed = record { answer = refl; hp_after = refl; s_after = refl; s_inv_after = refl; pht_after = refl; k_after = refl; x_after = refl; khp_after = refl; p_after = refl };
 }
 
 -- the As, and the As and Qs, of the run

@@ -14,7 +14,7 @@ use Rattle.promises.specs.Formulas.{Column, Matrix, Spreading, exact_x, exact_p}
 use Rattle.promises.specs.Runs.{State, HoldsColumn, HoldsMatrix}
 use Rattle.promises.specs.WholeNumbers.{WholeX, WholeP, AllUnitUpper, AsOf, DifferX, DifferP}
 use Rattle.promises.proofs.Exact.{exact_x_lem, exact_p_lem}
-use Rattle.promises.proofs.Injective.{x_run, P-run}
+use Rattle.promises.proofs.Injective.{x_run, p_run}
 use Rattle.promises.proofs.Numbers.{ne_numbers, numbers_ne}
 
 -- a place below n where the property holds, or none
@@ -56,5 +56,5 @@ pub different_p : (f : Format) (n : ℕ) (ms ms' : List Matrix) (ss : List Sprea
     → DifferP n s s' → DifferP n e e'
 different_p f n ms ms' ss s e s' e' p p' run run' upper d =
     ⊎_elim (λ t. t)
-    (λ same. absurd (ne_numbers _ _ (p d.0 d.1) (p' d.0 d.1) (run.start d.0 d.1 d.2 d.3) (run'.start d.0 d.1 d.2 d.3) d.4 (P-run n ss upper p p' same d.0 d.1 d.2 d.3)))
+    (λ same. absurd (ne_numbers _ _ (p d.0 d.1) (p' d.0 d.1) (run.start d.0 d.1 d.2 d.3) (run'.start d.0 d.1 d.2 d.3) d.4 (p_run n ss upper p p' same d.0 d.1 d.2 d.3)))
     (told-P n e e' (exact_p n ss p) (exact_p n ss p') (exact_p_lem f n ms ss s e p run) (exact_p_lem f n ms' ss s' e' p' run'))

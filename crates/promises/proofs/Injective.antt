@@ -67,8 +67,8 @@ unfolding exact_x
 x_run n [] u v v' e = e
 x_run n (a ∷ ms) u v v' e = x_injective n a u.0 v v' (x_run n ms u.1 (a_x n a v) (a_x n a v') e)
 
-pub P-run : (n : ℕ) (ss : List Spreading) → AllUnitUpper n (AsOf ss) → (p p' : Matrix)
+pub p_run : (n : ℕ) (ss : List Spreading) → AllUnitUpper n (AsOf ss) → (p p' : Matrix)
     → ((r c : ℕ) → r < n → c < n → exact_p n ss p r c ≡ exact_p n ss p' r c) → (r c : ℕ) → r < n → c < n → p r c ≡ p' r c
 unfolding exact_p
-P-run n [] u p p' e = e
-P-run n (s ∷ ss) u p p' e = p_injective n s.a u.0 p p' s.q (P-run n ss u.1 (a_p_at_q n s.a p s.q) (a_p_at_q n s.a p' s.q) e)
+p_run n [] u p p' e = e
+p_run n (s ∷ ss) u p p' e = p_injective n s.a u.0 p p' s.q (p_run n ss u.1 (a_p_at_q n s.a p s.q) (a_p_at_q n s.a p' s.q) e)

@@ -43,6 +43,6 @@ module _ (A P : List Float) where
     more_is r c =
         ap₂ (λ (t u : Float). add binary32 (add binary32 (started (mul binary32 t (cell 2 A c 0))) (mul binary32 u (cell 2 A c 1))) (cell 2 Q r c)) (bare_is r 0) (bare_is r 1)
 
-    pub P-left : (l l' : List Float) {a b c d : Float} → l' ≡ four l a b c d → a ≡ more 0 0 → b ≡ more 0 1 → c ≡ more 1 0 → d ≡ more 1 1 → l' ≡ grid 2 2 (predicted_p binary32 2 A P Q) l
+    pub p_left : (l l' : List Float) {a b c d : Float} → l' ≡ four l a b c d → a ≡ more 0 0 → b ≡ more 0 1 → c ≡ more 1 0 → d ≡ more 1 1 → l' ≡ grid 2 2 (predicted_p binary32 2 A P Q) l
     unfolding run grid
-    P-left l l' e p q r s = e ∙ fours l (p ∙ more_is 0 0) (q ∙ more_is 0 1) (r ∙ more_is 1 0) (s ∙ more_is 1 1)
+    p_left l l' e p q r s = e ∙ fours l (p ∙ more_is 0 0) (q ∙ more_is 0 1) (r ∙ more_is 1 0) (s ∙ more_is 1 1)

@@ -76,8 +76,8 @@ module _ (f : Format) (n : ℕ) (P H R t HP t' HP' : List Float) (t-fits : n * 4
         → (j ≡ pivot_of f n 3 (cell n H) (cell n P) (cell 3 R)) × (HP' ≡ grid 3 n (hp_of f n (cell n H) (cell n P)) HP)
         × (S₂ ≡ grid 3 3 (factor_of f n 3 (cell n H) (cell n P) (cell 3 R)) S) × (I ≡ cond (ltb j 3) I (grid 3 3 (inverse_of f n 3 (cell n H) (cell n P) (cell 3 R) (cell 3 I)) I))
         × (PHt ≡ cond (ltb j 3) PHt (grid n 3 (pht_of f n (cell n H) (cell n P)) PHt)) × (K ≡ cond (ltb j 3) K (grid n 3 (gain_of f n 3 (cell n H) (cell n P) (cell 3 R) (cell 3 I)) K))
-    refused S I PHt K S₁ {S₂} {j} said S-fits summed index factored =
-        let k = residual f n 3 P H R HP S HP' S₁ HP-fits S-fits hp summed index factored in
+    refused S I PHt K S₁ {S₂} {j} said s_fits summed index factored =
+        let k = residual f n 3 P H R HP S HP' S₁ HP-fits s_fits hp summed index factored in
         let less : ltb j 3 ≡ true = lt-ltb j 3 (rw k.0 (refused_some f s_matrix v of_s said)) in (
           k.0,
           hp,

@@ -144,9 +144,9 @@ module _ {b : Buffers} {z : List Float} {o : Operands} {s : Seen} (begun : Begun
         (vt : e.PHt ≡ set (set b.PHt 0 (started s.v0)) 1 (started s.v1))
         (vk : e.K ≡ set (set b.K 0 w.k0) 1 w.k1)
         (vh : e.KHP ≡ set (set (set (set b.KHP 0 w.t.t0) 1 w.t.t1) 2 w.t.t2) 3 w.t.t3) where
-      Pht_left : e.PHt ≡ grid 2 1 (pht_of binary32 2 H P) b.PHt
+      pht_left : e.PHt ≡ grid 2 1 (pht_of binary32 2 H P) b.PHt
       unfolding run grid
-      Pht_left = vt ∙ ap₂ (λ (f g : Float). set (set b.PHt 0 f) 1 g) f0_is f1_is
+      pht_left = vt ∙ ap₂ (λ (f g : Float). set (set b.PHt 0 f) 1 g) f0_is f1_is
 
       k_left : e.K ≡ grid 2 1 K b.K
       unfolding run grid
@@ -165,7 +165,7 @@ module _ {b : Buffers} {z : List Float} {o : Operands} {s : Seen} (begun : Begun
         unfolding run grid lent_in sum_from
         passed t vx vp =
             renewed_by_one binary32 2 b e z d Done l y holds (y_left y b.y stored) (ap pivot_taken (sym s_is) ∙ ended.taken) (ended.root ∙ ap (sqrt_of binary32) s_is) ended.recip
-            (two_passed X N q (fine says) t) (hp_left b.HP e.HP vg) vs vi Pht_left k_left khp_left
+            (two_passed X N q (fine says) t) (hp_left b.HP e.HP vg) vs vi pht_left k_left khp_left
             (vx ∙ ap (λ (v : Renewal). set (set b.x 0 v.w0) 1 v.w1) w_is)
             (vp ∙ ap (λ (v : Renewal). set (set (set (set b.P 0 v.n.t0) 1 v.n.t1) 2 v.n.t2) 3 v.n.t3) w_is)
 
@@ -173,4 +173,4 @@ module _ {b : Buffers} {z : List Float} {o : Operands} {s : Seen} (begun : Begun
         pub failed : q ≡ false → e.x ≡ b.x → e.P ≡ b.P → Renewed binary32 2 1 Done NotFinite b e
         failed t vx vp =
             renewed_by_one binary32 2 b e z d NotFinite l y holds (y_left y b.y stored) (ap pivot_taken (sym s_is) ∙ ended.taken) (ended.root ∙ ap (sqrt_of binary32) s_is) ended.recip
-            (two_failed X N q (fine says) t) (hp_left b.HP e.HP vg) vs vi Pht_left k_left khp_left vx vp
+            (two_failed X N q (fine says) t) (hp_left b.HP e.HP vg) vs vi pht_left k_left khp_left vx vp

@@ -7,25 +7,25 @@ use Rattle.c_cells.proofs.yurgamysh_get.Tie as tie
 get-requires : tie.Need-get-requires
 get-requires c κs = search rules
 
-enum-known-x : tie.Need-enum-known-x
-enum-known-x c = search rules
+enum_known-x : tie.Need-enum_known-x
+enum_known-x c = search rules
 
-enum-known-v : tie.Need-enum-known-v
-enum-known-v c = search rules
+enum_known-v : tie.Need-enum_known-v
+enum_known-v c = search rules
 
-code-of-requires : tie.Need-code-of-requires
-code-of-requires c κs = search rules
+code_of-requires : tie.Need-code_of-requires
+code_of-requires c κs = search rules
 
-returns : tie.Need-returns
-returns c =
-    let a = c.before.before.before.before.before.args in
-    found a.rows a.cols a.m.now a.row a.column a.value.now c.before.before.before.get.ensures c.before.x.given.1
+returns-in-Value : tie.Need-returns-in-Value
+returns-in-Value c =
+    let a = c.args in
+    found a.rows a.cols a.m.now a.row a.column a.value.now c.get.ensures c.in-Value.is
 
-returns-2 : tie.Need-returns-2
-returns-2 c =
-    let a = c.before.before.before.before.before.before.args in
-    refused a.rows a.cols a.m.now a.row a.column a.value.now c.before.before.before.before.get.ensures c.before.before.v.given.1 c.code_of.ensures
+returns-in-Refused : tie.Need-returns-in-Refused
+returns-in-Refused c =
+    let a = c.args in
+    refused a.rows a.cols a.m.now a.row a.column a.value.now c.get.ensures c.in-Refused.is c.code_of.ensures
 
-pub yurgamysh-get-spec : {M : Type 1} → statement M
-yurgamysh-get-spec =
-    tie.close (tie.spec get-requires enum-known-x enum-known-v code-of-requires returns returns-2)
+pub yurgamysh_get_spec : {M : Type 1} → statement M
+yurgamysh_get_spec =
+    tie.close (tie.spec get-requires enum_known-x enum_known-v code_of-requires returns-in-Value returns-in-Refused)

@@ -3,72 +3,72 @@ use borrow.Author.Rules.{rules}
 use Rattle.correction_buffers.proofs.read.Statement.{statement}
 use Rattle.correction_buffers.proofs.read.Tie as tie
 
-lend-requires : tie.Need-lend-requires
-lend-requires c κs = search rules
+lend-x-requires : tie.Need-lend-x-requires
+lend-x-requires c κs = search rules
 
-lend-requires-2 : tie.Need-lend-requires-2
-lend-requires-2 c κs = search rules
+lend-p-requires : tie.Need-lend-p-requires
+lend-p-requires c κs = search rules
 
-lend-requires-3 : tie.Need-lend-requires-3
-lend-requires-3 c κs = search rules
+lend-h-requires : tie.Need-lend-h-requires
+lend-h-requires c κs = search rules
 
-lend-requires-4 : tie.Need-lend-requires-4
-lend-requires-4 c κs = search rules
+lend-z-requires : tie.Need-lend-z-requires
+lend-z-requires c κs = search rules
 
-lend-requires-5 : tie.Need-lend-requires-5
-lend-requires-5 c κs = search rules
+lend-r-requires : tie.Need-lend-r-requires
+lend-r-requires c κs = search rules
 
-lend-requires-6 : tie.Need-lend-requires-6
-lend-requires-6 c κs = search rules
+lend-y-requires : tie.Need-lend-y-requires
+lend-y-requires c κs = search rules
 
-lend-requires-7 : tie.Need-lend-requires-7
-lend-requires-7 c κs = search rules
+lend-s-requires : tie.Need-lend-s-requires
+lend-s-requires c κs = search rules
 
-lend-requires-8 : tie.Need-lend-requires-8
-lend-requires-8 c κs = search rules
+lend-k-requires : tie.Need-lend-k-requires
+lend-k-requires c κs = search rules
 
-lend-requires-9 : tie.Need-lend-requires-9
-lend-requires-9 c κs = search rules
+lend-inverse-requires : tie.Need-lend-inverse-requires
+lend-inverse-requires c κs = search rules
 
-lend-requires-10 : tie.Need-lend-requires-10
-lend-requires-10 c κs = search rules
+lend-hp-requires : tie.Need-lend-hp-requires
+lend-hp-requires c κs = search rules
 
-lend-requires-11 : tie.Need-lend-requires-11
-lend-requires-11 c κs = search rules
+lend-pht-requires : tie.Need-lend-pht-requires
+lend-pht-requires c κs = search rules
 
-lend-requires-12 : tie.Need-lend-requires-12
-lend-requires-12 c κs = search rules
+lend-khp-requires : tie.Need-lend-khp-requires
+lend-khp-requires c κs = search rules
 
 returns : tie.Need-returns
 returns c = (
-  (c.before.before.before.before.before.before.before.before.before.before.before.lend.ensures.0, c.before.before.before.before.before.before.before.before.before.before.before.lend.ensures.1),
-  (c.before.before.before.before.before.before.before.before.before.before.lend2.ensures.0, c.before.before.before.before.before.before.before.before.before.before.lend2.ensures.1),
-  (c.before.before.before.before.before.before.before.before.before.lend3.ensures.0, c.before.before.before.before.before.before.before.before.before.lend3.ensures.1),
-  (c.before.before.before.before.before.before.before.before.lend4.ensures.0, c.before.before.before.before.before.before.before.before.lend4.ensures.1),
-  (c.before.before.before.before.before.before.before.lend5.ensures.0, c.before.before.before.before.before.before.before.lend5.ensures.1),
-  (c.before.before.before.before.before.before.lend6.ensures.0, c.before.before.before.before.before.before.lend6.ensures.1),
-  (c.before.before.before.before.before.lend7.ensures.0, c.before.before.before.before.before.lend7.ensures.1),
-  (c.before.before.before.before.lend8.ensures.0, c.before.before.before.before.lend8.ensures.1),
-  (c.before.before.before.lend9.ensures.0, c.before.before.before.lend9.ensures.1),
-  (c.before.before.lend10.ensures.0, c.before.before.lend10.ensures.1),
-  (c.before.lend11.ensures.0, c.before.lend11.ensures.1),
-  (c.lend12.ensures.0, c.lend12.ensures.1),
+  (c.lend-x.ensures.0, c.lend-x.ensures.1),
+  (c.lend-p.ensures.0, c.lend-p.ensures.1),
+  (c.lend-h.ensures.0, c.lend-h.ensures.1),
+  (c.lend-z.ensures.0, c.lend-z.ensures.1),
+  (c.lend-r.ensures.0, c.lend-r.ensures.1),
+  (c.lend-y.ensures.0, c.lend-y.ensures.1),
+  (c.lend-s.ensures.0, c.lend-s.ensures.1),
+  (c.lend-k.ensures.0, c.lend-k.ensures.1),
+  (c.lend-inverse.ensures.0, c.lend-inverse.ensures.1),
+  (c.lend-hp.ensures.0, c.lend-hp.ensures.1),
+  (c.lend-pht.ensures.0, c.lend-pht.ensures.1),
+  (c.lend-khp.ensures.0, c.lend-khp.ensures.1),
 )
 
 pub read_spec : {M : Type 1} → statement M
 read_spec =
     tie.close
     (tie.spec
-    lend-requires
-    lend-requires-2
-    lend-requires-3
-    lend-requires-4
-    lend-requires-5
-    lend-requires-6
-    lend-requires-7
-    lend-requires-8
-    lend-requires-9
-    lend-requires-10
-    lend-requires-11
-    lend-requires-12
+    lend-x-requires
+    lend-p-requires
+    lend-h-requires
+    lend-z-requires
+    lend-r-requires
+    lend-y-requires
+    lend-s-requires
+    lend-k-requires
+    lend-inverse-requires
+    lend-hp-requires
+    lend-pht-requires
+    lend-khp-requires
     returns)

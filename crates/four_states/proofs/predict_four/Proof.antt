@@ -2,7 +2,7 @@
 use Rattle.grids.specs.Grid.{cell, run}
 use Rattle.entries.specs.Entries.{numbers}
 use Rattle.four_values.proofs.Values.{four_is}
-use Rattle.four_states.proofs.Whole.{x_left, temp_left, P-left}
+use Rattle.four_states.proofs.Whole.{x_left, temp_left, p_left}
 use Rattle.four_states.proofs.predict_four.Statement.{statement}
 use Rattle.four_states.proofs.predict_four.Tie as tie
 
@@ -21,7 +21,7 @@ returns c =
       (
         x_left A c.read_sixteen-m.ensures (numbers args.x.now) v c.all_on-next.ensures args.predicted.now c.put-2.ensures,
         (
-          P-left A c.read_sixteen-m.ensures P c.read_sixteen.ensures c.all_times-t.ensures (cell 4 args.q.now) c.turned.ensures c.read_sixteen-2.ensures c.times_plus-n.ensures args.p.now c.put_sixteen-2.ensures,
+          p_left A c.read_sixteen-m.ensures P c.read_sixteen.ensures c.all_times-t.ensures (cell 4 args.q.now) c.turned.ensures c.read_sixteen-2.ensures c.times_plus-n.ensures args.p.now c.put_sixteen-2.ensures,
           temp_left A c.read_sixteen-m.ensures P c.read_sixteen.ensures c.all_times-t.ensures args.temp.now c.put_sixteen.ensures,
         ),
       ),

@@ -13,69 +13,69 @@ use Rattle.hundredths.proofs.in_hundredths.Tie as tie
 
 -- what owning an `f32` tells: the format holds it
 held : (c : tie.Start) → T (fits binary32 c.args.v)
-held c = subst T (sym c.well-formed.0.1) tt
+held c = subst T (sym c.well_formed.0.1) tt
 
 -- the divisor, 2^(150 − e)
-shift : (c : tie.Else3) → Shifted (150 - to_bits binary32 c.before.before.before.args.v / 8388608) ((1 * 2 ^ (150 - to_bits binary32 c.before.before.before.args.v / 8388608)) % 18446744073709551616)
+shift : (c : tie.Else-e-lt116) → Shifted (150 - to_bits binary32 c.args.v / 8388608) ((1 * 2 ^ (150 - to_bits binary32 c.args.v / 8388608)) % 18446744073709551616)
 shift c = shifted _ (omega arith)
 
+returns-then-v : tie.Need-returns-then-v
+returns-then-v c = nan_beyond c.args.v c.if-v.true
+
+float_to_bits-b : tie.Need-float_to_bits-b
+float_to_bits-b c = not_nan c.args.v c.if-v.false
+
+returns-then-e-gt143 : tie.Need-returns-then-e-gt143
+returns-then-e-gt143 c = large c.args.v (held c.before.before) c.if-e-gt143.true
+
+returns-then-e-lt116 : tie.Need-returns-then-e-lt116
+returns-then-e-lt116 c = small c.args.v (held c.before.before.before) c.if-e-lt116.true
+
+overflow_add-m : tie.Need-overflow_add-m
+overflow_add-m c = search rules
+
+overflow_cast-m : tie.Need-overflow_cast-m
+overflow_cast-m c = search rules
+
+overflow_sub-d : tie.Need-overflow_sub-d
+overflow_sub-d c = search rules
+
+overflow_cast-d : tie.Need-overflow_cast-d
+overflow_cast-d c = search rules
+
+overflow_shl-d : tie.Need-overflow_shl-d
+overflow_shl-d c = search rules
+
+overflow_mul-result : tie.Need-overflow_mul-result
+overflow_mul-result c = search rules
+
+overflow_add-result : tie.Need-overflow_add-result
+overflow_add-result c = let s = shift c in omega arith
+
+overflow_mul-result-2 : tie.Need-overflow_mul-result-2
+overflow_mul-result-2 c = let s = shift c in omega arith
+
+nonzero_div-result : tie.Need-nonzero_div-result
+nonzero_div-result c = let s = shift c in omega arith
+
 returns : tie.Need-returns
-returns c = nan_beyond c.before.args.v c.if1.true
+returns c = rw (shift c).is (middle c.args.v (held c.before.before.before) c.if-e-lt116.false c.if-e-gt143.false)
 
-float-to-bits-b : tie.Need-float-to-bits-b
-float-to-bits-b c = not_nan c.before.args.v c.if1.false
-
-returns-2 : tie.Need-returns-2
-returns-2 c = large c.before.before.args.v (held c.before.before) c.if2.true
-
-returns-3 : tie.Need-returns-3
-returns-3 c = small c.before.before.before.args.v (held c.before.before.before) c.if3.true
-
-add-m : tie.Need-overflow-add-m
-add-m c = search rules
-
-cast-m : tie.Need-overflow-cast-m
-cast-m c = search rules
-
-sub-d : tie.Need-overflow-sub-d
-sub-d c = search rules
-
-cast-d : tie.Need-overflow-cast-d
-cast-d c = search rules
-
-shl-d : tie.Need-overflow-shl-d
-shl-d c = search rules
-
-mul-t9 : tie.Need-overflow-mul-t9
-mul-t9 c = search rules
-
-add-t10 : tie.Need-overflow-add-t10
-add-t10 c = let s = shift c in omega arith
-
-mul-t11 : tie.Need-overflow-mul-t11
-mul-t11 c = let s = shift c in omega arith
-
-div-t12 : tie.Need-nonzero-div-t12
-div-t12 c = let s = shift c in omega arith
-
-returns-4 : tie.Need-returns-4
-returns-4 c = rw (shift c).is (middle c.before.before.before.args.v (held c.before.before.before) c.if3.false c.before.if2.false)
-
-pub in-hundredths-spec : {M : Type 1} → statement M
-in-hundredths-spec =
+pub in_hundredths_spec : {M : Type 1} → statement M
+in_hundredths_spec =
     tie.close
     (tie.spec
-    returns
-    float-to-bits-b
-    returns-2
-    returns-3
-    add-m
-    cast-m
-    sub-d
-    cast-d
-    shl-d
-    mul-t9
-    add-t10
-    mul-t11
-    div-t12
-    returns-4)
+    returns-then-v
+    float_to_bits-b
+    returns-then-e-gt143
+    returns-then-e-lt116
+    overflow_add-m
+    overflow_cast-m
+    overflow_sub-d
+    overflow_cast-d
+    overflow_shl-d
+    overflow_mul-result
+    overflow_add-result
+    overflow_mul-result-2
+    nonzero_div-result
+    returns)

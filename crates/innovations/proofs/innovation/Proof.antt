@@ -18,7 +18,7 @@ is-done-requires : tie.Need-is-done-requires
 is-done-requires c κs = search rules
 
 innovate-cells-requires : tie.Need-innovate-cells-requires
-innovate-cells-requires c κs = let s = shape c.before in (s.states, s.x_holds, s.H-holds, s.z_holds, s.y_holds)
+innovate-cells-requires c κs = let s = shape c.before in (s.states, s.x_holds, s.h_holds, s.z_holds, s.y_holds)
 
 same_length : tie.Need-same-length
 same_length c = c.before.y.given

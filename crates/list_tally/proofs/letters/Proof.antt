@@ -7,43 +7,43 @@ use borrow.Author.Rules.{rules}
 use Rattle.list_tally.proofs.letters.Statement.{statement}
 use Rattle.list_tally.proofs.letters.Tie as tie
 
-abbrev invariant-loop : tie.invariant-loop
+abbrev invariant-loop : tie.invariant-loop-i
 invariant-loop s i₀ i = i ≤ length s
 
-abbrev decreases-loop : tie.decreases-loop
+abbrev decreases-loop : tie.decreases-loop-i
 decreases-loop s i₀ i = length s - i
 
-loop-holds : tie.Need-loop-init invariant-loop decreases-loop
-loop-holds c = search rules
+loop-i-init : tie.Need-loop-i-init invariant-loop decreases-loop
+loop-i-init c = search rules
 
-shared-slice-read-b : tie.Need-shared-slice-read-b invariant-loop decreases-loop
-shared-slice-read-b c = search rules
+bounds-s-i : tie.Need-bounds-s-i invariant-loop decreases-loop
+bounds-s-i c = search rules
+
+returns-then-b-gt122 : tie.Need-returns-then-b-gt122 invariant-loop decreases-loop
+returns-then-b-gt122 c = (search rules, sym (length-take-le _ _ (search rules)))
+
+overflow_add-i : tie.Need-overflow_add-i invariant-loop decreases-loop
+overflow_add-i c = search rules
+
+loop-i-smaller : tie.Need-loop-i-smaller invariant-loop decreases-loop
+loop-i-smaller c = search rules
+
+loop-i-preserved : tie.Need-loop-i-preserved invariant-loop decreases-loop
+loop-i-preserved c = search rules
 
 returns : tie.Need-returns invariant-loop decreases-loop
 returns c = (search rules, sym (length-take-le _ _ (search rules)))
 
-add-i : tie.Need-overflow-add-i invariant-loop decreases-loop
-add-i c = search rules
-
-loop-less : tie.Need-loop-smaller invariant-loop decreases-loop
-loop-less c = search rules
-
-loop-again : tie.Need-loop-preserved invariant-loop decreases-loop
-loop-again c = search rules
-
-returns-2 : tie.Need-returns-2 invariant-loop decreases-loop
-returns-2 c = (search rules, sym (length-take-le _ _ (search rules)))
-
-pub letters-spec : {M : Type 1} → statement M
-letters-spec =
+pub letters_spec : {M : Type 1} → statement M
+letters_spec =
     tie.close
     (tie.spec
     invariant-loop
     decreases-loop
-    loop-holds
-    shared-slice-read-b
-    returns
-    add-i
-    loop-less
-    loop-again
-    returns-2)
+    loop-i-init
+    bounds-s-i
+    returns-then-b-gt122
+    overflow_add-i
+    loop-i-smaller
+    loop-i-preserved
+    returns)

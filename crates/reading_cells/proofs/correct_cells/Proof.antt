@@ -94,7 +94,7 @@ correct-cells-spec =
     (λ c. c.before.before.before.temp-pht2.given)
     (λ c. c.before.temp-khp2.given)
     (λ c. let d = c.before.before.before.before.before.before.before.before.before.before.before.before.before.before.before.before.before.before in let t = d.before.before.before.before.before.before.before.before.before.before in left (start2 t) 4 2 {e = end2 d} t.before.if3.true (eqb-true _ _ t.if4.true) d.correct-four.ensures)
-    (λ c κs. let s = start3 c.before.before in let h = s.pre.0 in (h.states, h.x_holds, h.H-holds, s.pre.1, h.y_holds))
+    (λ c κs. let s = start3 c.before.before in let h = s.pre.0 in (h.states, h.x_holds, h.h_holds, s.pre.1, h.y_holds))
     (λ c κs. let s = start3 c.before.before.before.before.before.before.before.before.before.before.before.before.before.before in let h = s.pre.0 in held_with _ _ (lent s) _ [] h (omega (arith, h.y_holds)))
     (λ c. c.before.before.before.before.before.before.before.before.before.before.before.before.before.before.before.x3.given)
     (λ c. c.before.before.before.before.before.before.before.before.before.before.before.before.before.p3.given)

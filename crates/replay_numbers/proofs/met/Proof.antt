@@ -4,16 +4,16 @@ use Rattle.replay_numbers.proofs.Number.{back_met_lem}
 use Rattle.replay_numbers.proofs.met.Statement.{statement}
 use Rattle.replay_numbers.proofs.met.Tie as tie
 
-answer-met-requires : tie.Need-answer-met-requires
-answer-met-requires c κs = search rules
+answer_met-answered-requires : tie.Need-answer_met-answered-requires
+answer_met-answered-requires c κs = search rules
 
-value-met-requires : tie.Need-value-met-requires
-value-met-requires c κs = search rules
+value_met-requires : tie.Need-value_met-requires
+value_met-requires c κs = search rules
 
 returns : tie.Need-returns
 returns c =
-    let a = c.before.before.before.args in
-    back_met_lem a.s.now a.at a.x _ _ c.before.answer-met.ensures c.value-met.ensures
+    let a = c.args in
+    back_met_lem a.s.now a.at a.x _ _ c.answer_met-answered.ensures c.value_met.ensures
 
-pub met-spec : {M : Type 1} → statement M
-met-spec = tie.close (tie.spec answer-met-requires value-met-requires returns)
+pub met_spec : {M : Type 1} → statement M
+met_spec = tie.close (tie.spec answer_met-answered-requires value_met-requires returns)

@@ -6,19 +6,19 @@ use Rattle.replay_numbers.proofs.Number.{number_met_lem}
 use Rattle.replay_numbers.proofs.recip.Statement.{statement}
 use Rattle.replay_numbers.proofs.recip.Tie as tie
 
-head-at-requires : tie.Need-head-at-requires
-head-at-requires c κs = search rules
+head_at-head-requires : tie.Need-head_at-head-requires
+head_at-head-requires c κs = search rules
 
-recip-requires : tie.Need-recip-requires
-recip-requires c κs = search rules
+recip-x-requires : tie.Need-recip-x-requires
+recip-x-requires c κs = search rules
 
 met-requires : tie.Need-met-requires
 met-requires c κs = search rules
 
 returns : tie.Need-returns
 returns c =
-    let a = c.before.before.before.before.args in
-    number_met_lem (recip_of binary32) a.s.now a.at a.h _ _ _ c.before.before.head_at.ensures c.before.recip.ensures c.met.ensures
+    let a = c.args in
+    number_met_lem (recip_of binary32) a.s.now a.at a.h _ _ _ c.head_at-head.ensures c.recip-x.ensures c.met.ensures
 
-pub recip-spec : {M : Type 1} → statement M
-recip-spec = tie.close (tie.spec head-at-requires recip-requires met-requires returns)
+pub recip_spec : {M : Type 1} → statement M
+recip_spec = tie.close (tie.spec head_at-head-requires recip-x-requires met-requires returns)

@@ -12,26 +12,25 @@ use Rattle.right_halves.proofs.pair_of_halves.Tie as tie
 
 returns : tie.Need-returns
 returns c =
-    let top = c.before.before.before.before.before.before.before.before.before.before.before.before.before.before.before.before.before.before.before.before in
-    let m = top.args in
-    let t = c.before.before.before.before.before.before.before.before.before.before.before.before.before.before.before.before.two-halves in
+    let m = c.args in
+    let t = c.two_halves-t in
     let g = product binary32 m.inner m.cols m.a.now m.b.now in
     let u = t.result.u in
     let v = t.result.v in
     let first =
-    half_put (m.r * m.cols) m.cols (g m.r) m.c.now u.f0 u.f1 top.requires.0 top.requires.1 refl t.ensures.0
-    c.before.before.before.before.before.before.before.before.before.before.before.before.before.before.put.ensures
-    c.before.before.before.before.before.before.before.before.before.before.put2.ensures
-    (omega (arith, top.requires)) in
+    half_put (m.r * m.cols) m.cols (g m.r) m.c.now u.f0 u.f1 c.requires.0 c.requires.1 refl t.ensures.0
+    c.put.ensures
+    c.put-2.ensures
+    (omega (arith, c.requires)) in
     let second =
-    half_put ((m.r + 1) * m.cols) m.cols (g (m.r + 1)) _ v.f0 v.f1 top.requires.0 top.requires.1 (next_row m.r m.cols) t.ensures.1
-    c.before.before.before.before.before.before.put3.ensures
-    c.before.before.put4.ensures
-    (omega (arith, top.requires)) in
+    half_put ((m.r + 1) * m.cols) m.cols (g (m.r + 1)) _ v.f0 v.f1 c.requires.0 c.requires.1 (next_row m.r m.cols) t.ensures.1
+    c.put-3.ensures
+    c.put-4.ensures
+    (omega (arith, c.requires)) in
     second ∙ ap (half m.cols g (m.r + 1)) first
 
-pub pair-of-halves-spec : {M : Type 1} → statement M
-pair-of-halves-spec =
+pub pair_of_halves_spec : {M : Type 1} → statement M
+pair_of_halves_spec =
     tie.close
     (tie.spec
     (λ c. search rules)
@@ -44,7 +43,7 @@ pair-of-halves-spec =
     (λ c κs. search rules)
     (λ c. search rules)
     (λ c κs. search rules)
-    (λ c. let top = c.before.before.before.before.before.before.before.before.before.before.before.before.before.before.before.before.before in omega arith)
+    (λ c. omega arith)
     (λ c κs. search rules)
     (λ c. search rules)
     returns)

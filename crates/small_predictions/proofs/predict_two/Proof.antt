@@ -4,7 +4,7 @@ use native.Mathlib.Omega.{arith}
 use lib.Ieee.{of_bits}
 use Rattle.numbers.specs.Sums.{sum_from}
 use Rattle.grids.specs.Grid.{run}
-use Rattle.small_predictions.proofs.Two.{temp_left, P-left}
+use Rattle.small_predictions.proofs.Two.{temp_left, p_left}
 use Rattle.small_predictions.proofs.predict_two.Statement.{statement}
 use Rattle.small_predictions.proofs.predict_two.Tie as tie
 
@@ -25,7 +25,7 @@ returns c =
       (
         predicted.put_two-2.ensures,
         (
-          P-left m.a.now m.p.now m.q.now m.p.now _ p.put_four-2.ensures n.two_more-n00.ensures n.two_more-n01.ensures n.two_more-n10.ensures n.two_more-n11.ensures,
+          p_left m.a.now m.p.now m.q.now m.p.now _ p.put_four-2.ensures n.two_more-n00.ensures n.two_more-n01.ensures n.two_more-n10.ensures n.two_more-n11.ensures,
           temp_left m.a.now m.p.now m.temp.now _ temp.put_four.ensures,
         ),
       ),

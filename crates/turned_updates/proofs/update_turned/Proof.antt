@@ -24,7 +24,7 @@ residual-cells-requires : tie.Need-residual-cells-requires
 residual-cells-requires c κs =
     let w = c.before.before.before.before.before.before in
     let g = (start w).requires.1 in
-    (g.states, search rules, g.H-holds, g.R-holds, search rules, search rules, g.observations, g.few_states, g.few_observations, search rules, w.turn-wide.ensures)
+    (g.states, search rules, g.h_holds, g.r_holds, search rules, search rules, g.observations, g.few_states, g.few_observations, search rules, w.turn-wide.ensures)
 
 returns : tie.Need-returns
 returns c =
@@ -35,7 +35,7 @@ gain-turned-requires : tie.Need-gain-turned-requires
 gain-turned-requires c κs =
     let w = turned c.before.before.before.before.before.before.before.before.before.before.before in
     let g = (start w).pre.1 in
-    (g.states, g.P-holds, g.H-holds, search rules, search rules, search rules, search rules, g.observations, g.few_states, g.few_observations, search rules, w.turn-wide.ensures)
+    (g.states, g.p_holds, g.h_holds, search rules, search rules, search rules, search rules, g.observations, g.few_states, g.few_observations, search rules, w.turn-wide.ensures)
 
 renew-cells-requires : tie.Need-renew-cells-requires
 renew-cells-requires c κs = omega (arith, (start (turned (residual c.before.before.before.before.before.before.before.before.before.before.before))).requires.1)

@@ -76,7 +76,7 @@ returns c =
 -- ---- lengths
 
 read_operands-b-requires : tie.Need-read_operands-b-requires
-read_operands-b-requires c κs = let h = c.requires in (h.0.x_holds, h.0.P-holds, h.0.H-holds, h.1, h.0.R-holds)
+read_operands-b-requires c κs = let h = c.requires in (h.0.x_holds, h.0.p_holds, h.0.h_holds, h.1, h.0.r_holds)
 
 pub correct_two_spec : {M : Type 1} → statement M
 correct_two_spec =
@@ -99,12 +99,12 @@ correct_two_spec =
     (λ c κs. tt)
     (λ c. c.requires.0.s_holds)
     (λ c. c.requires.0.s_inv_holds)
-    (λ c κs. c.requires.0.Pht_holds)
+    (λ c κs. c.requires.0.pht_holds)
     (λ c κs. c.requires.0.k_holds)
     (λ c κs. c.requires.0.khp_holds)
     (λ c κs. tt)
     (λ c κs. c.requires.0.x_holds)
-    (λ c κs. c.requires.0.P-holds)
+    (λ c κs. c.requires.0.p_holds)
     (λ c. omega (arith, c.put_two-then-is_fine.auto))
     (λ c. omega (arith, c.put-then-is_fine.auto))
     (λ c. rw length-set)

@@ -14,82 +14,82 @@ use Rattle.upper_rows.proofs.Rising.{Rising, begun, row_more, row_refused, rows_
 use Rattle.upper_rows.proofs.factor_rows.Statement.{statement}
 use Rattle.upper_rows.proofs.factor_rows.Tie as tie
 
-abbrev invariant-loop : tie.invariant-loop
+abbrev invariant-loop : tie.invariant-loop-i
 invariant-loop n t₀ i₀ t i = Rising binary32 n t₀ t i
 
-abbrev decreases-loop : tie.decreases-loop
+abbrev decreases-loop : tie.decreases-loop-i
 decreases-loop n t₀ i₀ t i = n - i
 
-abbrev invariant-loop2 : tie.invariant-loop2
+abbrev invariant-loop2 : tie.invariant-loop-j
 invariant-loop2 n t₀ i j₀ t j = (j ≤ n) × (length t ≡ length t₀) × (t ≡ grid n n (turned j (cell n t₀)) t₀)
 
-abbrev decreases-loop2 : tie.decreases-loop2
+abbrev decreases-loop2 : tie.decreases-loop-j
 decreases-loop2 n t₀ i j₀ t j = n - j
 
-loop-holds : tie.Need-loop-init invariant-loop decreases-loop invariant-loop2 decreases-loop2
-loop-holds c = begun binary32 c.before.args.n c.before.args.t.now
+loop-i-init : tie.Need-loop-i-init invariant-loop decreases-loop invariant-loop2 decreases-loop2
+loop-i-init c = begun binary32 c.args.n c.args.t.now
 
-fill-row-requires : tie.Need-fill-row-requires invariant-loop decreases-loop invariant-loop2 decreases-loop2
-fill-row-requires c κs = let w = c.before.before.loop in omega (arith, w.invariant.within, w.invariant.size)
+fill_row-requires : tie.Need-fill_row-requires invariant-loop decreases-loop invariant-loop2 decreases-loop2
+fill_row-requires c κs = let w = c.loop-i in omega (arith, w.invariant.within, w.invariant.size)
 
-same_length : tie.Need-same-length invariant-loop decreases-loop invariant-loop2 decreases-loop2
-same_length c =
-    let a = c.before.before.before.fill-row.ensures.1 in
-    let w = c.before.before.before.before.before.before.loop in
+shape_of-t-then-not-fill_row : tie.Need-shape_of-t-then-not-fill_row invariant-loop decreases-loop invariant-loop2 decreases-loop2
+shape_of-t-then-not-fill_row c =
+    let a = c.fill_row.ensures.1 in
+    let w = c.loop-i in
     a.size ∙ w.invariant.size
 
-returns : tie.Need-returns invariant-loop decreases-loop invariant-loop2 decreases-loop2
-returns c =
-    let w = c.before.before.before.before.before.before.loop in
-    let a = c.before.before.before.fill-row in
-    let b = not-true a.result c.if1.true in (
+returns-then-not-fill_row : tie.Need-returns-then-not-fill_row invariant-loop decreases-loop invariant-loop2 decreases-loop2
+returns-then-not-fill_row c =
+    let w = c.loop-i in
+    let a = c.fill_row in
+    let b = not-true a.result c.if-not-fill_row.true-raw in (
       row_refused w.invariant a.result (omega arith) b a.ensures.0,
       ((λ h. absurd (omega arith)), (a.ensures.1.size ∙ w.invariant.size, λ k h. a.ensures.1.past k h ∙ w.invariant.past k h)),
     )
 
-add-i : tie.Need-overflow-add-i invariant-loop decreases-loop invariant-loop2 decreases-loop2
-add-i c = let w = c.before.before.before.before.before.before.loop in omega (arith, w.invariant.within)
+overflow_add-i : tie.Need-overflow_add-i invariant-loop decreases-loop invariant-loop2 decreases-loop2
+overflow_add-i c = let w = c.loop-i in omega (arith, w.invariant.within)
 
-loop-less : tie.Need-loop-smaller invariant-loop decreases-loop invariant-loop2 decreases-loop2
-loop-less c = omega arith
+loop-i-smaller : tie.Need-loop-i-smaller invariant-loop decreases-loop invariant-loop2 decreases-loop2
+loop-i-smaller c = omega arith
 
-loop-again : tie.Need-loop-preserved invariant-loop decreases-loop invariant-loop2 decreases-loop2
-loop-again c =
-    let w = c.before.before.before.before.before.before.loop in
-    let a = c.before.before.before.fill-row in
-    row_more w.invariant a.result _ (omega arith) (not-false a.result c.if1.false) a.ensures.0 a.ensures.1
+loop-i-preserved : tie.Need-loop-i-preserved invariant-loop decreases-loop invariant-loop2 decreases-loop2
+loop-i-preserved c =
+    let w = c.loop-i in
+    let a = c.fill_row in
+    row_more w.invariant a.result _ (omega arith) (not-false a.result c.if-not-fill_row.false-raw) a.ensures.0 a.ensures.1
 
-loop2-holds : tie.Need-loop2-init invariant-loop decreases-loop invariant-loop2 decreases-loop2
-loop2-holds c = (omega arith, refl, turned_start c.before.before.before.args.n c.before.loop.t)
+loop-j-init : tie.Need-loop-j-init invariant-loop decreases-loop invariant-loop2 decreases-loop2
+loop-j-init c = (omega arith, refl, turned_start c.args.n c.loop-i.t)
 
-lay-down-requires : tie.Need-lay-down-requires invariant-loop decreases-loop invariant-loop2 decreases-loop2
-lay-down-requires c κs = let w = c.before.before.before.before.loop in omega (arith, w.invariant.size)
+lay_down-requires : tie.Need-lay_down-requires invariant-loop decreases-loop invariant-loop2 decreases-loop2
+lay_down-requires c κs = let w = c.loop-i in omega (arith, w.invariant.size)
 
-add-j : tie.Need-overflow-add-j invariant-loop decreases-loop invariant-loop2 decreases-loop2
-add-j c = omega arith
+overflow_add-j : tie.Need-overflow_add-j invariant-loop decreases-loop invariant-loop2 decreases-loop2
+overflow_add-j c = omega arith
 
-loop2-less : tie.Need-loop2-smaller invariant-loop decreases-loop invariant-loop2 decreases-loop2
-loop2-less c = omega arith
+loop-j-smaller : tie.Need-loop-j-smaller invariant-loop decreases-loop invariant-loop2 decreases-loop2
+loop-j-smaller c = omega arith
 
-loop2-again : tie.Need-loop2-preserved invariant-loop decreases-loop invariant-loop2 decreases-loop2
-loop2-again c =
-    let m = c.before.before.before.before.before.before.before.before.before.args in
-    let l = c.before.before.before.before.before.before.before.loop in
-    let w = c.before.before.before.before.before.loop2 in
+loop-j-preserved : tie.Need-loop-j-preserved invariant-loop decreases-loop invariant-loop2 decreases-loop2
+loop-j-preserved c =
+    let m = c.args in
+    let l = c.loop-i in
+    let w = c.loop-j in
     let fits : m.n * m.n ≤ length l.t = omega (arith, l.invariant.size) in (
       omega arith,
       omega arith,
-      turned_more m.n l.t w.t _ w.j (omega arith) fits w.invariant.2 c.before.before.lay-down.ensures,
+      turned_more m.n l.t w.t _ w.j (omega arith) fits w.invariant.2 c.lay_down.ensures,
     )
 
-same-length-2 : tie.Need-same-length-2 invariant-loop decreases-loop invariant-loop2 decreases-loop2
-same-length-2 c = c.before.loop2.invariant.1 ∙ c.before.before.before.loop.invariant.size
+shape_of-t : tie.Need-shape_of-t invariant-loop decreases-loop invariant-loop2 decreases-loop2
+shape_of-t c = c.loop-j.invariant.1 ∙ c.loop-i.invariant.size
 
-returns-2 : tie.Need-returns-2 invariant-loop decreases-loop invariant-loop2 decreases-loop2
-returns-2 c =
-    let m = c.before.before.before.before.before.args in
-    let l = c.before.before.before.loop in
-    let w = c.before.loop2 in
+returns : tie.Need-returns invariant-loop decreases-loop invariant-loop2 decreases-loop2
+returns c =
+    let m = c.args in
+    let l = c.loop-i in
+    let w = c.loop-j in
     let k : w.j ≡ m.n = omega arith in
     let all : m.n ≤ l.i = omega arith in
     let z = (rw k at w.invariant.2) ∙ turned_end m.n l.t in (
@@ -100,25 +100,25 @@ returns-2 c =
       ),
     )
 
-pub factor-rows-spec : {M : Type 1} → statement M
-factor-rows-spec =
+pub factor_rows_spec : {M : Type 1} → statement M
+factor_rows_spec =
     tie.close
     (tie.spec
     invariant-loop
     decreases-loop
     invariant-loop2
     decreases-loop2
-    loop-holds
-    fill-row-requires
-    same_length
-    returns
-    add-i
-    loop-less
-    loop-again
-    loop2-holds
-    lay-down-requires
-    add-j
-    loop2-less
-    loop2-again
-    same-length-2
-    returns-2)
+    loop-i-init
+    fill_row-requires
+    shape_of-t-then-not-fill_row
+    returns-then-not-fill_row
+    overflow_add-i
+    loop-i-smaller
+    loop-i-preserved
+    loop-j-init
+    lay_down-requires
+    overflow_add-j
+    loop-j-smaller
+    loop-j-preserved
+    shape_of-t
+    returns)

@@ -8,81 +8,81 @@ use Rattle.upper_rows.proofs.Differences.{LesseningFour, four_begun, four-lessen
 use Rattle.upper_rows.proofs.four_left.Statement.{statement}
 use Rattle.upper_rows.proofs.four_left.Tie as tie
 
-abbrev invariant-loop : tie.invariant-loop
+abbrev invariant-loop : tie.invariant-loop-k
 invariant-loop n i c t v₀ k₀ v k = LesseningFour binary32 n i c t v.t0 v.t1 v.t2 v.t3 k
 
-abbrev decreases-loop : tie.decreases-loop
+abbrev decreases-loop : tie.decreases-loop-k
 decreases-loop n i c t v₀ k₀ v k = i - k
 
 -- row k lies in the buffer
-in_t : (c : tie.In-loop invariant-loop decreases-loop) →
-    let m = c.before.before.before.before.args in
-    c.before.loop.k * m.n + m.n ≤ length m.t.now
-in_t c = let m = c.before.before.before.before.args in omega (arith, row_in m.n m.n c.before.loop.k (omega arith))
+in_t : (c : tie.In-loop-k invariant-loop decreases-loop) →
+    let m = c.args in
+    c.loop-k.k * m.n + m.n ≤ length m.t.now
+in_t c = let m = c.args in omega (arith, row_in m.n m.n c.loop-k.k (omega arith))
 
-mul-read : tie.Need-overflow-mul-read invariant-loop decreases-loop
-mul-read c = omega (arith, row_in c.before.args.n c.before.args.n c.before.args.i (omega arith))
+overflow_mul-i : tie.Need-overflow_mul-i invariant-loop decreases-loop
+overflow_mul-i c = omega (arith, row_in c.args.n c.args.n c.args.i (omega arith))
 
-add_read : tie.Need-overflow-add-read invariant-loop decreases-loop
-add_read c = omega (arith, row_in c.before.args.n c.before.args.n c.before.args.i (omega arith))
+overflow_add-i : tie.Need-overflow_add-i invariant-loop decreases-loop
+overflow_add-i c = omega (arith, row_in c.args.n c.args.n c.args.i (omega arith))
 
-read-requires : tie.Need-read-requires invariant-loop decreases-loop
-read-requires c κs = omega (arith, row_in c.before.args.n c.before.args.n c.before.args.i (omega arith))
+read-v-requires : tie.Need-read-v-requires invariant-loop decreases-loop
+read-v-requires c κs = omega (arith, row_in c.args.n c.args.n c.args.i (omega arith))
 
-loop-holds : tie.Need-loop-init invariant-loop decreases-loop
-loop-holds c = four_begun c.read.ensures
+loop-k-init : tie.Need-loop-k-init invariant-loop decreases-loop
+loop-k-init c = four_begun c.read-v.ensures
 
-mul-less : tie.Need-overflow-mul-less invariant-loop decreases-loop
-mul-less c = omega (arith, in_t c)
+overflow_mul-k : tie.Need-overflow_mul-k invariant-loop decreases-loop
+overflow_mul-k c = omega (arith, in_t c)
 
-add-less : tie.Need-overflow-add-less invariant-loop decreases-loop
-add-less c = omega (arith, in_t c)
+overflow_add-k : tie.Need-overflow_add-k invariant-loop decreases-loop
+overflow_add-k c = omega (arith, in_t c)
 
-mul-less-2 : tie.Need-overflow-mul-less-2 invariant-loop decreases-loop
-mul-less-2 c = omega (arith, in_t c)
+offset_bounds-t-k : tie.Need-offset_bounds-t-k invariant-loop decreases-loop
+offset_bounds-t-k c = omega (arith, in_t c)
 
-shared-slice-read-less : tie.Need-shared-slice-read-smaller invariant-loop decreases-loop
-shared-slice-read-less c = omega (arith, in_t c.before)
+shared-slice-read-smaller : tie.Need-shared-slice-read-smaller invariant-loop decreases-loop
+shared-slice-read-smaller c = omega (arith, in_t c.before)
 
-mul-less-3 : tie.Need-overflow-mul-less-3 invariant-loop decreases-loop
-mul-less-3 c = omega (arith, in_t c.before)
+overflow_mul-k-in-loop-k : tie.Need-overflow_mul-k-in-loop-k invariant-loop decreases-loop
+overflow_mul-k-in-loop-k c = omega (arith, in_t c.before)
 
-add-less-2 : tie.Need-overflow-add-less-2 invariant-loop decreases-loop
-add-less-2 c = omega (arith, in_t c.before)
+overflow_add-k-in-loop-k : tie.Need-overflow_add-k-in-loop-k invariant-loop decreases-loop
+overflow_add-k-in-loop-k c = omega (arith, in_t c.before)
 
-less-requires : tie.Need-less-requires invariant-loop decreases-loop
-less-requires c κs = omega (arith, in_t c.before)
+less-v-requires : tie.Need-less-v-requires invariant-loop decreases-loop
+less-v-requires c κs = omega (arith, in_t c.before)
 
-add-k : tie.Need-overflow-add-k invariant-loop decreases-loop
-add-k c = omega arith
+overflow_add-k-in-loop-k-2 : tie.Need-overflow_add-k-in-loop-k-2 invariant-loop decreases-loop
+overflow_add-k-in-loop-k-2 c = omega arith
 
-loop-less : tie.Need-loop-smaller invariant-loop decreases-loop
-loop-less c = omega arith
+loop-k-smaller : tie.Need-loop-k-smaller invariant-loop decreases-loop
+loop-k-smaller c = omega arith
 
-loop-again : tie.Need-loop-preserved invariant-loop decreases-loop
-loop-again c = four-lessened c.before.before.before.loop.invariant (omega arith) c.less.ensures
+loop-k-preserved : tie.Need-loop-k-preserved invariant-loop decreases-loop
+loop-k-preserved c = four-lessened c.loop-k.invariant (omega arith) c.less-v.ensures
 
 returns : tie.Need-returns invariant-loop decreases-loop
-returns c = all_four c.before.loop.invariant (omega arith)
+returns c = all_four c.loop-k.invariant (omega arith)
 
-pub four-left-spec : {M : Type 1} → statement M
-four-left-spec =
+pub four_left_spec : {M : Type 1} → statement M
+four_left_spec =
     tie.close
     (tie.spec
     invariant-loop
     decreases-loop
-    mul-read
-    add_read
-    read-requires
-    loop-holds
-    mul-less
-    add-less
-    mul-less-2
-    shared-slice-read-less
-    mul-less-3
-    add-less-2
-    less-requires
-    add-k
-    loop-less
-    loop-again
+    overflow_mul-i
+    overflow_add-i
+    read-v-requires
+    loop-k-init
+    overflow_mul-k
+    overflow_add-k
+    offset_bounds-t-k
+    shared-slice-read-smaller
+    overflow_mul-k-in-loop-k
+    overflow_add-k-in-loop-k
+    less-v-requires
+    overflow_add-k-in-loop-k-2
+    loop-k-smaller
+    loop-k-preserved
     returns)

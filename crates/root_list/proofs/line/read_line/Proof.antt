@@ -8,67 +8,67 @@ use borrow.Author.Rules.{rules}
 use Rattle.root_list.proofs.line.read_line.Statement.{statement}
 use Rattle.root_list.proofs.line.read_line.Tie as tie
 
-byte-at-requires : tie.Need-byte-at-requires
-byte-at-requires c κs = search rules
+byte_at-requires : tie.Need-byte_at-requires
+byte_at-requires c κs = search rules
 
-returns : tie.Need-returns
-returns c = comment c.before.before.before.args.s.now _ _ (sym c.before.byte_at.ensures ∙ c.if1.true)
+returns-then-byte_at-eq35 : tie.Need-returns-then-byte_at-eq35
+returns-then-byte_at-eq35 c = comment c.args.s.now _ _ (sym c.byte_at.ensures ∙ c.if-byte_at-eq35.true)
 
 hex8-requires : tie.Need-hex8-requires
 hex8-requires c κs = search rules
 
-enum-known-arg : tie.Need-enum-known-arg
-enum-known-arg c = search rules
+enum_known-arg : tie.Need-enum_known-arg
+enum_known-arg c = search rules
 
-enum_told : tie.Need-enum-told
-enum_told c = search rules
+enum_told-1 : tie.Need-enum_told-1
+enum_told-1 c = search rules
 
-returns-2 : tie.Need-returns-2
-returns-2 c = no_argument c.before.before.before.before.before.before.args.s.now _ _ (λ h. c.before.before.before.if1.false (c.before.before.before.before.byte_at.ensures ∙ h)) (sym c.before.before.hex8.ensures ∙ c.enum_told.given.1)
+returns-in_default : tie.Need-returns-in_default
+returns-in_default c = no_argument c.args.s.now _ _ (λ h. c.if-byte_at-eq35.false (c.byte_at.ensures ∙ h)) (sym c.hex8.ensures ∙ c.in_default.is)
 
-byte-at-requires-2 : tie.Need-byte-at-requires-2
-byte-at-requires-2 c κs = search rules
+byte_at-requires-2 : tie.Need-byte_at-requires-2
+byte_at-requires-2 c κs = search rules
 
-returns-3 : tie.Need-returns-3
-returns-3 c = no_space c.before.before.before.before.before.before.before.before.before.args.s.now _ _ (λ h. c.before.before.before.before.before.before.if1.false (c.before.before.before.before.before.before.before.byte_at.ensures ∙ h)) _ _ (sym c.before.before.before.before.before.hex8.ensures ∙ c.before.before.before.arg.given.1) (λ h. c.if2.true (c.before.byte-at2.ensures ∙ h))
+returns-then-byte_at-ne32 : tie.Need-returns-then-byte_at-ne32
+returns-then-byte_at-ne32 c = no_space c.args.s.now _ _ (λ h. c.if-byte_at-eq35.false (c.byte_at.ensures ∙ h)) _ _ (sym c.hex8.ensures ∙ c.in-Number.is) (λ h. c.if-byte_at-ne32.true (c.byte_at-2.ensures ∙ h))
 
-add-hex8 : tie.Need-overflow-add-hex8
-add-hex8 c = let h = held c.before.before.before.before.before.before.before.before.before.args.s.now _ (sym c.before.byte-at2.ensures ∙ c.if2.false) in omega arith
+overflow_add-p : tie.Need-overflow_add-p
+overflow_add-p c = let h = held c.args.s.now _ (sym c.byte_at-2.ensures ∙ c.if-byte_at-ne32.false) in omega arith
 
 hex8-requires-2 : tie.Need-hex8-requires-2
 hex8-requires-2 c κs = search rules
 
-enum-known-root : tie.Need-enum-known-root
-enum-known-root c = search rules
+enum_known-root : tie.Need-enum_known-root
+enum_known-root c = search rules
 
-enum-told-2 : tie.Need-enum-told-2
-enum-told-2 c = search rules
+enum_told-in_default-hex8 : tie.Need-enum_told-in_default-hex8
+enum_told-in_default-hex8 c = search rules
 
-returns-4 : tie.Need-returns-4
-returns-4 c = no_root c.before.before.before.before.before.before.before.before.before.before.before.before.args.s.now _ _ (λ h. c.before.before.before.before.before.before.before.before.before.if1.false (c.before.before.before.before.before.before.before.before.before.before.byte_at.ensures ∙ h)) _ _ (sym c.before.before.before.before.before.before.before.before.hex8.ensures ∙ c.before.before.before.before.before.before.arg.given.1) (sym c.before.before.before.before.byte-at2.ensures ∙ c.before.before.before.if2.false) (sym c.before.before.hex82.ensures ∙ c.enum-told2.given.1)
+returns-in_default-hex8 : tie.Need-returns-in_default-hex8
+returns-in_default-hex8 c = no_root c.args.s.now _ _ (λ h. c.if-byte_at-eq35.false (c.byte_at.ensures ∙ h)) _ _ (sym c.hex8.ensures ∙ c.in-Number.is) (sym c.byte_at-2.ensures ∙ c.if-byte_at-ne32.false) (sym c.hex8-2.ensures ∙ c.in_default-hex8.is)
 
-returns-5 : tie.Need-returns-5
-returns-5 c = whole c.before.before.before.before.before.before.before.before.before.before.before.before.before.before.args.s.now _ _ (λ h. c.before.before.before.before.before.before.before.before.before.before.before.if1.false (c.before.before.before.before.before.before.before.before.before.before.before.before.byte_at.ensures ∙ h)) _ _ (sym c.before.before.before.before.before.before.before.before.before.before.hex8.ensures ∙ c.before.before.before.before.before.before.before.before.arg.given.1) (sym c.before.before.before.before.before.before.byte-at2.ensures ∙ c.before.before.before.before.before.if2.false) _ _ (sym c.before.before.before.before.hex82.ensures ∙ c.before.before.root.given.1) c.if3.true
+returns-then-q-end : tie.Need-returns-then-q-end
+returns-then-q-end c = whole c.args.s.now _ _ (λ h. c.if-byte_at-eq35.false (c.byte_at.ensures ∙ h)) _ _ (sym c.hex8.ensures ∙ c.in-Number.is) (sym c.byte_at-2.ensures ∙ c.if-byte_at-ne32.false) _ _ (sym c.hex8-2.ensures ∙ c.in-Number-hex8.is) c.if-q-end.true
 
-returns-6 : tie.Need-returns-6
-returns-6 c = too_long c.before.before.before.before.before.before.before.before.before.before.before.before.before.before.args.s.now _ _ (λ h. c.before.before.before.before.before.before.before.before.before.before.before.if1.false (c.before.before.before.before.before.before.before.before.before.before.before.before.byte_at.ensures ∙ h)) _ _ (sym c.before.before.before.before.before.before.before.before.before.before.hex8.ensures ∙ c.before.before.before.before.before.before.before.before.arg.given.1) (sym c.before.before.before.before.before.before.byte-at2.ensures ∙ c.before.before.before.before.before.if2.false) _ _ (sym c.before.before.before.before.hex82.ensures ∙ c.before.before.root.given.1) c.if3.false
+returns-else-q-end : tie.Need-returns-else-q-end
+returns-else-q-end c = too_long c.args.s.now _ _ (λ h. c.if-byte_at-eq35.false (c.byte_at.ensures ∙ h)) _ _ (sym c.hex8.ensures ∙ c.in-Number.is) (sym c.byte_at-2.ensures ∙ c.if-byte_at-ne32.false) _ _ (sym c.hex8-2.ensures ∙ c.in-Number-hex8.is) c.if-q-end.false
 
-pub read-line-spec : {M : Type 1} → statement M
-read-line-spec =
+pub read_line_spec : {M : Type 1} → statement M
+read_line_spec =
     tie.close
     (tie.spec
-    byte-at-requires
-    returns
+    byte_at-requires
+    returns-then-byte_at-eq35
     hex8-requires
-    enum-known-arg
-    enum_told
-    returns-2
-    byte-at-requires-2
-    returns-3
-    add-hex8
+    enum_known-arg
+    enum_told-1
+    returns-in_default
+    byte_at-requires-2
+    returns-then-byte_at-ne32
+    overflow_add-p
     hex8-requires-2
-    enum-known-root
-    enum-told-2
-    returns-4
-    returns-5
-    returns-6)
+    enum_known-root
+    enum_told-in_default-hex8
+    returns-in_default-hex8
+    returns-then-q-end
+    returns-else-q-end)

@@ -8,18 +8,18 @@ use borrow.Author.Rules.{rules}
 use Rattle.root_list.proofs.pattern.root_bits.Statement.{statement}
 use Rattle.root_list.proofs.pattern.root_bits.Tie as tie
 
-float-of-requires : tie.Need-float-of-requires
-float-of-requires c κs = search rules
+float_of-requires : tie.Need-float_of-requires
+float_of-requires c κs = search rules
 
-square-root-requires : tie.Need-square-root-requires
-square-root-requires c κs = search rules
+square_root-requires : tie.Need-square_root-requires
+square_root-requires c κs = search rules
 
-bits-of-requires : tie.Need-bits-of-requires
-bits-of-requires c κs = search rules
+bits_of-requires : tie.Need-bits_of-requires
+bits_of-requires c κs = search rules
 
 returns : tie.Need-returns
-returns c = c.bits-of.ensures ∙ ap bits_of (c.before.square-root.ensures ∙ ap (sqrt_of binary32) c.before.before.float_of.ensures)
+returns c = c.bits_of.ensures ∙ ap bits_of (c.square_root.ensures ∙ ap (sqrt_of binary32) c.float_of.ensures)
 
-pub root-bits-spec : {M : Type 1} → statement M
-root-bits-spec =
-    tie.close (tie.spec float-of-requires square-root-requires bits-of-requires returns)
+pub root_bits_spec : {M : Type 1} → statement M
+root_bits_spec =
+    tie.close (tie.spec float_of-requires square_root-requires bits_of-requires returns)

@@ -79,9 +79,9 @@ back_row_spec =
     (λ c. omega arith)
     (λ c. omega arith)
     (λ c. omega (arith, one_in c.before))
-    (λ c. omega (arith, one_in c.before.before))
-    (λ c. omega (arith, one_in c.before.before))
-    (λ c. simp length-set (omega (arith, one_in c.before.before)))
+    (λ c. omega (arith, one_in c.before))
+    (λ c. omega (arith, one_in c.before))
+    (λ c. simp length-set (omega (arith, one_in c.before)))
     (λ c. omega arith)
     (λ c. omega arith)
     loop-c-2-preserved

@@ -7,55 +7,55 @@ use borrow.Author.Rules.{rules}
 use Rattle.root_list.proofs.tally.Tally.count.Statement.{statement}
 use Rattle.root_list.proofs.tally.Tally.count.Tie as tie
 
-enum_told : tie.Need-enum-told
-enum_told c = search rules
+enum_told-1 : tie.Need-enum_told-1
+enum_told-1 c = search rules
 
-enum-known-l : tie.Need-enum-known-l
-enum-known-l c = search rules
+enum_known-l : tie.Need-enum_known-l
+enum_known-l c = search rules
 
 agrees-requires : tie.Need-agrees-requires
 agrees-requires c κs = search rules
 
-add-t8 : tie.Need-overflow-add-t8
-add-t8 c = search rules
+overflow_add-result : tie.Need-overflow_add-result
+overflow_add-result c = search rules
 
-add-t9 : tie.Need-overflow-add-t9
-add-t9 c = search rules
+overflow_add-result-else-agrees : tie.Need-overflow_add-result-else-agrees
+overflow_add-result-else-agrees c = search rules
 
-add-t10 : tie.Need-overflow-add-t10
-add-t10 c = search rules
+overflow_add-result-else-agrees-2 : tie.Need-overflow_add-result-else-agrees-2
+overflow_add-result-else-agrees-2 c = search rules
 
-enum-told-2 : tie.Need-enum-told-2
-enum-told-2 c = search rules
+enum_told-in-Bad : tie.Need-enum_told-in-Bad
+enum_told-in-Bad c = search rules
 
-add-t11 : tie.Need-overflow-add-t11
-add-t11 c = search rules
+overflow_add-result-in-Bad : tie.Need-overflow_add-result-in-Bad
+overflow_add-result-in-Bad c = search rules
 
-returns : tie.Need-returns
-returns c = search rules
+returns-in-Comment : tie.Need-returns-in-Comment
+returns-in-Comment c = search rules
 
-returns-2 : tie.Need-returns-2
-returns-2 c = count_pair _ _ _ _ true c.before.before.before.before.l.given.1 (sym c.before.before.agrees.ensures ∙ c.before.if1.true)
+returns-then-agrees : tie.Need-returns-then-agrees
+returns-then-agrees c = count_pair _ _ _ _ true c.in-Pair.is (sym c.agrees.ensures ∙ c.if-agrees.true)
 
-returns-3 : tie.Need-returns-3
-returns-3 c = count_pair _ _ _ _ false c.before.before.before.before.before.l.given.1 (sym c.before.before.before.agrees.ensures ∙ c.before.before.if1.false)
+returns-else-agrees : tie.Need-returns-else-agrees
+returns-else-agrees c = count_pair _ _ _ _ false c.in-Pair.is (sym c.agrees.ensures ∙ c.if-agrees.false)
 
-returns-4 : tie.Need-returns-4
-returns-4 c = count_bad _ _ c.before.enum-told2.given.1
+returns-in-Bad : tie.Need-returns-in-Bad
+returns-in-Bad c = count_bad _ _ c.in-Bad.is
 
 pub count_spec : {M : Type 1} → statement M
 count_spec =
     tie.close
     (tie.spec
-    enum_told
-    enum-known-l
+    enum_told-1
+    enum_known-l
     agrees-requires
-    add-t8
-    add-t9
-    add-t10
-    enum-told-2
-    add-t11
-    returns
-    returns-2
-    returns-3
-    returns-4)
+    overflow_add-result
+    overflow_add-result-else-agrees
+    overflow_add-result-else-agrees-2
+    enum_told-in-Bad
+    overflow_add-result-in-Bad
+    returns-in-Comment
+    returns-then-agrees
+    returns-else-agrees
+    returns-in-Bad)
