@@ -46,7 +46,7 @@ returns-then-two c =
     let s = seen t in (
       refl,
       passed (lent s) s.args.z.now (s_is s) h.recip-d0.result (sym t.taken.ensures ∙ not-false _ h.if-not-taken.false-raw) h.square_root-l00.ensures h.recip-d0.ensures h.once-k00.ensures h.twice-t00.ensures _
-          s.args.y.now s.pre.0.y_holds refl refl refl refl refl refl refl c.two.ensures c.if-two.true refl refl,
+          s.args.y.now s.requires.0.y_holds refl refl refl refl refl refl refl c.two.ensures c.if-two.true refl refl,
     )
 
 returns : tie.Need-returns
@@ -57,7 +57,7 @@ returns c =
     let s = seen t in (
       refl,
       failed (lent s) s.args.z.now (s_is s) h.recip-d0.result (sym t.taken.ensures ∙ not-false _ h.if-not-taken.false-raw) h.square_root-l00.ensures h.recip-d0.ensures h.once-k00.ensures h.twice-t00.ensures _
-          s.args.y.now s.pre.0.y_holds refl refl refl refl refl refl refl c.two.ensures c.if-two.false refl refl,
+          s.args.y.now s.requires.0.y_holds refl refl refl refl refl refl refl c.two.ensures c.if-two.false refl refl,
     )
 
 pub correct_one_spec : {M : Type 1} → statement M

@@ -62,7 +62,7 @@ returns c =
     let v = g.before.before.before.before.before in
     let m = start v in
     let a = m.args in
-    let k = taken binary32 a.n a.p.now a.h.now a.r.now _ a.temp-hp.now _ _ (omega (arith, m.pre)) m.pre.7 (turned v).turn_three.ensures v.before.before.before.before.before.mult-cells.ensures v.solve.result v.solve.ensures a.s.now a.temp-s-inv.now a.temp-pht.now a.k.now g.before.before.before.before.if1.true g.gains.ensures.0 g.gains.ensures.1 c.before.before.before.before.before.before.put-factor.ensures c.before.before.put-inverse.ensures in
+    let k = taken binary32 a.n a.p.now a.h.now a.r.now _ a.temp-hp.now _ _ (omega (arith, m.pre)) m.requires.7 (turned v).turn_three.ensures v.before.before.before.before.before.mult-cells.ensures v.solve.result v.solve.ensures a.s.now a.temp-s-inv.now a.temp-pht.now a.k.now g.before.before.before.before.if1.true g.gains.ensures.0 g.gains.ensures.1 c.before.before.before.before.before.before.put-factor.ensures c.before.before.put-inverse.ensures in
     (k.0, (k.1, (k.2, (k.3, (k.4, k.5)))))
 
 thin-plus-requires : tie.Need-thin-plus-requires
@@ -84,7 +84,7 @@ returns-2 c =
     let v = w.before.before.before.before in
     let m = start v in
     let a = m.args in
-    let k = refused binary32 a.n a.p.now a.h.now a.r.now _ a.temp-hp.now _ _ (omega (arith, m.pre)) m.pre.7 (turned v).turn_three.ensures v.before.before.before.before.before.mult-cells.ensures v.solve.result v.solve.ensures a.s.now a.temp-s-inv.now a.temp-pht.now a.k.now _ w.before.before.before.if1.false m.pre.4 w.thin-plus.ensures d.0 d.1 in
+    let k = refused binary32 a.n a.p.now a.h.now a.r.now _ a.temp-hp.now _ _ (omega (arith, m.pre)) m.requires.7 (turned v).turn_three.ensures v.before.before.before.before.before.mult-cells.ensures v.solve.result v.solve.ensures a.s.now a.temp-s-inv.now a.temp-pht.now a.k.now _ w.before.before.before.if1.false m.requires.4 w.thin-plus.ensures d.0 d.1 in
     (k.0, (k.1, (k.2, (k.3, (k.4, k.5)))))
 
 pub gain-three-spec : {M : Type 1} → statement M

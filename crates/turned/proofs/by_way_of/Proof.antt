@@ -7,9 +7,9 @@ use Rattle.turned.proofs.by_way_of.Tie as tie
 
 returns : tie.Need-returns
 returns c =
-    let m = c.before.before.before.before.before.before.before.before.before.before.before.before.before.args in
-    let t = c.before.before.before.before.before.before.before.turn.ensures in
-    (t, by_transpose binary32 m.rows m.inner m.cols m.a.now m.b.now m.c.now _ _ _ t c.before.before.wide-cells.ensures (search rules))
+    let m = c.args in
+    let t = c.turn.ensures in
+    (t, by_transpose binary32 m.rows m.inner m.cols m.a.now m.b.now m.c.now _ _ _ t c.wide_cells.ensures (search rules))
 
-pub by-way-of-spec : {M : Type 1} → statement M
-by-way-of-spec = tie.close (tie.spec (λ c κs. search rules) (λ c κs. search rules) (λ c. search rules) (λ c. search rules) returns)
+pub by_way_of_spec : {M : Type 1} → statement M
+by_way_of_spec = tie.close (tie.spec (λ c κs. search rules) (λ c κs. search rules) (λ c. search rules) (λ c. search rules) returns)

@@ -10,21 +10,21 @@ use Rattle.grids.proofs.Turns.{one_more}
 use Rattle.turned.proofs.turn_column.Statement.{statement}
 use Rattle.turned.proofs.turn_column.Tie as tie
 
-abbrev invariant-loop : tie.invariant-loop
+abbrev invariant-loop : tie.invariant-loop-j
 invariant-loop inner cols b k t₀ at j₀ t j = Writing (k * cols) cols (λ i. cell inner b i k) t₀ t j
 
-abbrev decreases-loop : tie.decreases-loop
+abbrev decreases-loop : tie.decreases-loop-j
 decreases-loop inner cols b k t₀ at j₀ t j = cols - j
 
 -- row j lies in b
-in_b : (c : tie.In-loop invariant-loop decreases-loop) → let m = c.before.before.args in c.before.loop.j * m.inner + m.inner ≤ length m.b.now
-in_b c = let m = c.before.before.args in omega (arith, row_in m.cols m.inner c.before.loop.j c.loop-test.true)
+in_b : (c : tie.In-loop-j invariant-loop decreases-loop) → let m = c.args in c.loop-j.j * m.inner + m.inner ≤ length m.b.now
+in_b c = let m = c.args in omega (arith, row_in m.cols m.inner c.loop-j.j c.loop-j-test.true)
 
-loop-again : tie.Need-loop-preserved invariant-loop decreases-loop
-loop-again c = one_more c.before.before.loop.invariant c.before.loop-test.true refl refl refl
+loop-j-preserved : tie.Need-loop-j-preserved invariant-loop decreases-loop
+loop-j-preserved c = one_more c.loop-j.invariant c.loop-j-test.true refl refl refl
 
-pub turn-column-spec : {M : Type 1} → statement M
-turn-column-spec =
+pub turn_column_spec : {M : Type 1} → statement M
+turn_column_spec =
     tie.close
     (tie.spec
     invariant-loop
@@ -40,6 +40,6 @@ turn-column-spec =
     (λ c. omega arith)
     (λ c. omega arith)
     (λ c. omega arith)
-    loop-again
-    (λ c. c.before.loop.invariant.size)
-    (λ c. all_written c.before.loop.invariant c.loop-test.false))
+    loop-j-preserved
+    (λ c. c.loop-j.invariant.size)
+    (λ c. all_written c.loop-j.invariant c.loop-j-test.false))

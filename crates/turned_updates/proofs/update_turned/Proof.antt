@@ -34,7 +34,7 @@ returns c =
 gain-turned-requires : tie.Need-gain-turned-requires
 gain-turned-requires c κs =
     let w = turned c.before.before.before.before.before.before.before.before.before.before.before in
-    let g = (start w).pre.1 in
+    let g = (start w).requires.1 in
     (g.states, g.p_holds, g.h_holds, search rules, search rules, search rules, search rules, g.observations, g.few_states, g.few_observations, search rules, w.turn-wide.ensures)
 
 renew-cells-requires : tie.Need-renew-cells-requires

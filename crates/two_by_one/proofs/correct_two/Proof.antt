@@ -13,7 +13,7 @@ use Rattle.two_by_one.proofs.correct_two.Tie as tie
 -- ---- the way back from each step to the one before it
 
 abbrev start : tie.After-observe-seen → tie.Start
-start c = c.before.before.before.before.before.before.before.before.before.before.before.before.before.before.before.before
+start c = c.before.before.before.before.before.before.before.before.before.before.before.before.before.before
 
 abbrev observed : tie.After-put_two → tie.After-observe-seen
 observed c = c.before.before.before.before
@@ -25,7 +25,7 @@ abbrev tested : tie.After-renew-v → tie.After-taken
 tested c = c.before.before.before.before
 
 abbrev renewed : tie.After-is_fine → tie.After-renew-v
-renewed c = c.before.before.before.before.before.before.before.before.before.before.before.before.before.before.before
+renewed c = c.before.before.before.before.before.before.before.before.before.before.before.before.before.before.before.before.before
 
 -- ---- before the pivot
 
@@ -33,7 +33,7 @@ renewed c = c.before.before.before.before.before.before.before.before.before.bef
 abbrev lent : tie.After-taken → Buffers
 lent c =
     let a = c.args in
-    buffers a.x.now a.p.now a.h.now [] a.r.now (set a.y.now 0 c.observe-seen.result.y) a.s.now a.k.now a.temp-s-inv.now a.temp-hp.now a.temp-pht.now a.temp-khp.now
+    buffers a.x.now a.p.now a.h.now [] a.r.now (set a.y.now 0 c.observe-seen.result.y) a.s.now a.k.now a.temp_s_inv.now a.temp_hp.now a.temp_pht.now a.temp_khp.now
 
 -- what is read and seen
 begun_is : (c : tie.After-taken) → Begun (lent c) c.args.z.now c.read_operands-b.result c.observe-seen.result
@@ -55,10 +55,10 @@ returns-then-is_fine : tie.Need-returns-then-is_fine
 unfolding of_bits
 returns-then-is_fine c =
     let q = c.before.before.before.before.before.before.before.before.before in
-    let w = renewed q in
+    let w = renewed q.before in
     let t = tested w in (
       y_left (begun_is t) _ _ refl,
-      passed (begun_is t) (ended w) _ t.args.y.now t.pre.0.y_holds refl t.put_two.ensures refl refl c.put_two-2.ensures c.put_two-3.ensures c.put.ensures
+      passed (begun_is t) (ended w) _ t.args.y.now t.requires.0.y_holds refl t.put_two.ensures refl refl c.put_two-2.ensures c.put_two-3.ensures c.put.ensures
           q.is_fine.ensures c.if-is_fine.true c.put_two-then-is_fine.ensures c.put-then-is_fine.ensures,
     )
 
@@ -69,7 +69,7 @@ returns c =
     let w = renewed q in
     let t = tested w in (
       y_left (begun_is t) _ _ refl,
-      failed (begun_is t) (ended w) _ t.args.y.now t.pre.0.y_holds refl t.put_two.ensures refl refl c.put_two-2.ensures c.put_two-3.ensures c.put.ensures
+      failed (begun_is t) (ended w) _ t.args.y.now t.requires.0.y_holds refl t.put_two.ensures refl refl c.put_two-2.ensures c.put_two-3.ensures c.put.ensures
           q.is_fine.ensures c.if-is_fine.false refl refl,
     )
 

@@ -35,7 +35,7 @@ start6 c = start5 c.before.before.before.before.before
 -- ---- room there
 
 room1 : (c : tie.After-put_count_line-at_states) → c.put_count_line-at_states.result + left1 8 c.args.n c.args.m ≤ length c.put_count_line-at_states.new.0
-room1 c = room_behind _ _ (left1 8 c.args.n c.args.m) _ (room_first 8 c.args.n c.args.m _ c.pre.8) _ _ c.put_count_line-at_states.ensures.0 c.put_count_line-at_states.auto.0
+room1 c = room_behind _ _ (left1 8 c.args.n c.args.m) _ (room_first 8 c.args.n c.args.m _ c.requires.8) _ _ c.put_count_line-at_states.ensures.0 c.put_count_line-at_states.auto.0
 
 room2 : (c : tie.After-put_count_line-at_observations) → c.put_count_line-at_observations.result + left2 8 c.args.n c.args.m ≤ length c.put_count_line-at_observations.new.0
 room2 c = room_behind _ _ (left2 8 c.args.n c.args.m) _ (room1 c.before.before.before.before.before) _ _ c.put_count_line-at_observations.ensures.0 c.put_count_line-at_observations.auto.0
@@ -118,7 +118,7 @@ shape_of-into c =
 
 returns : tie.Need-returns
 returns c =
-    card_put binary32 8 c.args.n c.args.m c.args.a.now c.args.q.now c.args.h.now c.args.r.now c.pre.0 c.pre.2 c.pre.4 c.pre.5 c.pre.6 c.args.into.now
+    card_put binary32 8 c.args.n c.args.m c.args.a.now c.args.q.now c.args.h.now c.args.r.now c.requires.0 c.requires.2 c.requires.4 c.requires.5 c.requires.6 c.args.into.now
     c.put_count_line-at_states.ensures
     c.put_count_line-at_observations.ensures
     c.put_count_line-at_a.ensures
