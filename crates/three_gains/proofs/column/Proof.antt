@@ -16,11 +16,11 @@ at l e = ap (λ (i : ℕ). get_or l i nan) e
 
 returns : tie.Need-returns
 returns c =
-    let h = c.before.before.before.args.h.now in
+    let h = c.args.h.now in
     (at h (omega arith), at h (omega arith), at h (omega arith), zero_bits)
 
-pub column-spec : {M : Type 1} → statement M
-column-spec =
+pub column_spec : {M : Type 1} → statement M
+column_spec =
     tie.close
     (tie.spec
     (λ c. search rules)

@@ -9,5 +9,5 @@ returns : tie.Need-returns
 unfolding of_bits sum_from
 returns c = (refl, refl, refl)
 
-pub gain-row-spec : {M : Type 1} → statement M
-gain-row-spec = tie.close (tie.spec returns)
+pub gain_row_spec : {M : Type 1} → statement M
+gain_row_spec = tie.close (tie.spec returns)

@@ -8,106 +8,94 @@ use Rattle.three_gains.proofs.gain_three.Tie as tie
 
 -- ---- the way back from each step to the one before it
 
-abbrev turned : tie.After-solve → tie.After-turn-three
-turned c = c.before.before.before.before.before.before.before.before
+slice_bounds-turn_three-end : tie.Need-slice_bounds-turn_three-end
+slice_bounds-turn_three-end c = search rules
 
-abbrev start : tie.After-solve → tie.Start
-start c = (turned c).before.before.before.before.before.before.before.before.before.before
+turn_three-requires : tie.Need-turn_three-requires
+turn_three-requires c κs = search rules
 
-slice-aggregate-turn-three : tie.Need-slice-aggregate-turn-three
-slice-aggregate-turn-three c = search rules
+mult_cells-requires : tie.Need-mult_cells-requires
+mult_cells-requires c κs = search rules
 
-turn-three-requires : tie.Need-turn-three-requires
-turn-three-requires c κs = search rules
+slice_bounds-solve-end : tie.Need-slice_bounds-solve-end
+slice_bounds-solve-end c = search rules
 
-mult-cells-requires : tie.Need-mult-cells-requires
-mult-cells-requires c κs = search rules
+solve-v-requires : tie.Need-solve-v-requires
+solve-v-requires c κs = search rules
 
-slice-aggregate-solve : tie.Need-slice-aggregate-solve
-slice-aggregate-solve c = search rules
-
-solve-requires : tie.Need-solve-requires
-solve-requires c κs = search rules
-
-slice-aggregate-gains : tie.Need-slice-aggregate-gains
-slice-aggregate-gains c = search rules
+slice_bounds-gains-end : tie.Need-slice_bounds-gains-end
+slice_bounds-gains-end c = search rules
 
 gains-requires : tie.Need-gains-requires
-gains-requires c κs = omega (arith, (start c.before.before.before.before).requires)
+gains-requires c κs = omega (arith, c.requires)
 
-put-factor-requires : tie.Need-put-factor-requires
-put-factor-requires c κs = omega (arith, (start c.before.before.before.before.before.before.before.before.before.before).requires)
+put_factor-requires : tie.Need-put_factor-requires
+put_factor-requires c κs = omega (arith, c.requires)
 
-put-inverse-requires : tie.Need-put-inverse-requires
-put-inverse-requires c κs = omega (arith, (start c.before.before.before.before.before.before.before.before.before.before.before.before.before.before).requires)
+put_inverse-requires : tie.Need-put_inverse-requires
+put_inverse-requires c κs = omega (arith, c.requires)
 
-same_length : tie.Need-same-length
-same_length c = search rules
+shape_of-s-then-v : tie.Need-shape_of-s-then-v
+shape_of-s-then-v c = search rules
 
-same-length-2 : tie.Need-same-length-2
-same-length-2 c = search rules
+shape_of-k-then-v : tie.Need-shape_of-k-then-v
+shape_of-k-then-v c = search rules
 
-same-length-3 : tie.Need-same-length-3
-same-length-3 c = search rules
+shape_of-temp_s_inv-then-v : tie.Need-shape_of-temp_s_inv-then-v
+shape_of-temp_s_inv-then-v c = search rules
 
-same-length-4 : tie.Need-same-length-4
-same-length-4 c = search rules
+shape_of-temp_hp-then-v : tie.Need-shape_of-temp_hp-then-v
+shape_of-temp_hp-then-v c = search rules
 
-same-length-5 : tie.Need-same-length-5
-same-length-5 c = search rules
+shape_of-temp_pht-then-v : tie.Need-shape_of-temp_pht-then-v
+shape_of-temp_pht-then-v c = search rules
+
+returns-then-v : tie.Need-returns-then-v
+returns-then-v c =
+    let a = c.args in
+    let k = taken binary32 a.n a.p.now a.h.now a.r.now _ a.temp_hp.now _ _ (omega (arith, c.requires)) c.requires.7 c.turn_three.ensures c.mult_cells.ensures c.solve-v.result c.solve-v.ensures a.s.now a.temp_s_inv.now a.temp_pht.now a.k.now c.if-v.true c.gains.ensures.0 c.gains.ensures.1 c.put_factor.ensures c.put_inverse.ensures in
+    (k.0, (k.1, (k.2, (k.3, (k.4, k.5)))))
+
+thin_plus-requires : tie.Need-thin_plus-requires
+thin_plus-requires c κs = search rules
+
+decompose_three-requires : tie.Need-decompose_three-requires
+decompose_three-requires c κs = omega (arith, c.requires)
+
+shape_of-s : tie.Need-shape_of-s
+shape_of-s c = search rules
+
+shape_of-temp_hp : tie.Need-shape_of-temp_hp
+shape_of-temp_hp c = search rules
 
 returns : tie.Need-returns
 returns c =
-    let g = c.before.before.before.before.before.before.before.before.before.before.before.before in
-    let v = g.before.before.before.before.before in
-    let m = start v in
-    let a = m.args in
-    let k = taken binary32 a.n a.p.now a.h.now a.r.now _ a.temp-hp.now _ _ (omega (arith, m.pre)) m.requires.7 (turned v).turn_three.ensures v.before.before.before.before.before.mult-cells.ensures v.solve.result v.solve.ensures a.s.now a.temp-s-inv.now a.temp-pht.now a.k.now g.before.before.before.before.if1.true g.gains.ensures.0 g.gains.ensures.1 c.before.before.before.before.before.before.put-factor.ensures c.before.before.put-inverse.ensures in
+    let d = c.decompose_three.ensures in
+    let a = c.args in
+    let k = refused binary32 a.n a.p.now a.h.now a.r.now _ a.temp_hp.now _ _ (omega (arith, c.requires)) c.requires.7 c.turn_three.ensures c.mult_cells.ensures c.solve-v.result c.solve-v.ensures a.s.now a.temp_s_inv.now a.temp_pht.now a.k.now _ c.if-v.false c.requires.4 c.thin_plus.ensures d.0 d.1 in
     (k.0, (k.1, (k.2, (k.3, (k.4, k.5)))))
 
-thin-plus-requires : tie.Need-thin-plus-requires
-thin-plus-requires c κs = search rules
-
-decompose-three-requires : tie.Need-decompose-three-requires
-decompose-three-requires c κs = omega (arith, (start c.before.before.before.before.before.before.before).requires)
-
-same-length-6 : tie.Need-same-length-6
-same-length-6 c = search rules
-
-same-length-7 : tie.Need-same-length-7
-same-length-7 c = search rules
-
-returns-2 : tie.Need-returns-2
-returns-2 c =
-    let d = c.before.before.decompose-three.ensures in
-    let w = c.before.before.before.before.before.before in
-    let v = w.before.before.before.before in
-    let m = start v in
-    let a = m.args in
-    let k = refused binary32 a.n a.p.now a.h.now a.r.now _ a.temp-hp.now _ _ (omega (arith, m.pre)) m.requires.7 (turned v).turn_three.ensures v.before.before.before.before.before.mult-cells.ensures v.solve.result v.solve.ensures a.s.now a.temp-s-inv.now a.temp-pht.now a.k.now _ w.before.before.before.if1.false m.requires.4 w.thin-plus.ensures d.0 d.1 in
-    (k.0, (k.1, (k.2, (k.3, (k.4, k.5)))))
-
-pub gain-three-spec : {M : Type 1} → statement M
-gain-three-spec =
+pub gain_three_spec : {M : Type 1} → statement M
+gain_three_spec =
     tie.close
     (tie.spec
-    slice-aggregate-turn-three
-    turn-three-requires
-    mult-cells-requires
-    slice-aggregate-solve
-    solve-requires
-    slice-aggregate-gains
+    slice_bounds-turn_three-end
+    turn_three-requires
+    mult_cells-requires
+    slice_bounds-solve-end
+    solve-v-requires
+    slice_bounds-gains-end
     gains-requires
-    put-factor-requires
-    put-inverse-requires
-    same_length
-    same-length-2
-    same-length-3
-    same-length-4
-    same-length-5
-    returns
-    thin-plus-requires
-    decompose-three-requires
-    same-length-6
-    same-length-7
-    returns-2)
+    put_factor-requires
+    put_inverse-requires
+    shape_of-s-then-v
+    shape_of-k-then-v
+    shape_of-temp_s_inv-then-v
+    shape_of-temp_hp-then-v
+    shape_of-temp_pht-then-v
+    returns-then-v
+    thin_plus-requires
+    decompose_three-requires
+    shape_of-s
+    shape_of-temp_hp
+    returns)

@@ -10,14 +10,13 @@ use Rattle.three_gains.proofs.gains.Tie as tie
 
 returns : tie.Need-returns
 returns c =
-    let start = c.before.before.before.before.before.before.before.before.before.before.before.before.before.before.before in
-    let m = start.args in
+    let m = c.args in
     let e = product binary32 m.n 4 m.p.now m.t.now in
-    let made = c.before.before.before.before.before.before.before.before.before.four-columns.ensures in
-    let both = c.before.before.before.before.put-gains.ensures in (
-      gains_from m.n e _ _ (omega (arith, start.requires.0)) made binary32 (inverse_in m.v) m.k.now both.0,
-      rows_from m.n e _ _ (omega (arith, start.requires.0)) made m.temp-pht.now both.1,
+    let made = c.four_columns.ensures in
+    let both = c.put_gains.ensures in (
+      gains_from m.n e _ _ (omega (arith, c.requires.0)) made binary32 (inverse_in m.v) m.k.now both.0,
+      rows_from m.n e _ _ (omega (arith, c.requires.0)) made m.temp_pht.now both.1,
     )
 
-pub gains-spec : {M : Type 1} → statement M
-gains-spec = tie.close (tie.spec (λ c. search rules) (λ c κs. search rules) (λ c. search rules) (λ c κs. search rules) (λ c. search rules) (λ c. search rules) returns)
+pub gains_spec : {M : Type 1} → statement M
+gains_spec = tie.close (tie.spec (λ c. search rules) (λ c κs. search rules) (λ c. search rules) (λ c κs. search rules) (λ c. search rules) (λ c. search rules) returns)

@@ -13,46 +13,42 @@ use Rattle.three_gains.proofs.Laws.{row_put, gain_put}
 use Rattle.three_gains.proofs.put_gains.Statement.{statement}
 use Rattle.three_gains.proofs.put_gains.Tie as tie
 
-abbrev invariant-loop : tie.invariant-loop
+abbrev invariant-loop : tie.invariant-loop-r
 invariant-loop n f v k₀ temp-pht₀ r₀ k temp-pht r = (Rows n 3 (times binary32 3 (cell 4 f) (inverse_in v)) k₀ k r) × (Rows n 3 (cell 4 f) temp-pht₀ temp-pht r)
 
-abbrev decreases-loop : tie.decreases-loop
+abbrev decreases-loop : tie.decreases-loop-r
 decreases-loop n f v k₀ temp-pht₀ r₀ k temp-pht r = n - r
 
 -- row r lies in f, in k and in temp_pht
-in_f : (c : tie.In-loop invariant-loop decreases-loop) → c.before.loop.r * 4 + 4 ≤ length c.before.before.before.before.before.args.f.now
+in_f : (c : tie.In-loop-r invariant-loop decreases-loop) → c.loop-r.r * 4 + 4 ≤ length c.args.f.now
 in_f c =
-    let top = c.before.before.before.before.before in
-    omega (arith, row_in top.args.n 4 c.before.loop.r c.loop-test.true, top.requires.0)
+    omega (arith, row_in c.args.n 4 c.loop-r.r c.loop-r-test.true, c.requires.0)
 
-in_k : (c : tie.In-loop invariant-loop decreases-loop) → c.before.loop.r * 3 + 3 ≤ length c.before.loop.k
+in_k : (c : tie.In-loop-r invariant-loop decreases-loop) → c.loop-r.r * 3 + 3 ≤ length c.loop-r.k
 in_k c =
-    let top = c.before.before.before.before.before in
-    omega (arith, row_in top.args.n 3 c.before.loop.r c.loop-test.true, c.before.loop.invariant.0.size, top.requires.1)
+    omega (arith, row_in c.args.n 3 c.loop-r.r c.loop-r-test.true, c.loop-r.invariant.0.size, c.requires.1)
 
-in_pht : (c : tie.In-loop invariant-loop decreases-loop) → c.before.loop.r * 3 + 3 ≤ length c.before.loop.temp-pht
+in_pht : (c : tie.In-loop-r invariant-loop decreases-loop) → c.loop-r.r * 3 + 3 ≤ length c.loop-r.temp_pht
 in_pht c =
-    let top = c.before.before.before.before.before in
-    omega (arith, row_in top.args.n 3 c.before.loop.r c.loop-test.true, c.before.loop.invariant.1.size, top.requires.2)
+    omega (arith, row_in c.args.n 3 c.loop-r.r c.loop-r-test.true, c.loop-r.invariant.1.size, c.requires.2)
 
-put-some-requires : tie.Need-put-some-requires invariant-loop decreases-loop
-put-some-requires c κs = (omega arith, omega arith, in_pht c.before.before.before.before)
+put_some-requires : tie.Need-put_some-requires invariant-loop decreases-loop
+put_some-requires c κs = (omega arith, omega arith, in_pht c.before.before.before.before)
 
-put-some-requires-2 : tie.Need-put-some-requires-2 invariant-loop decreases-loop
-put-some-requires-2 c κs = (omega arith, omega arith, in_k c.before.before.before.before.before.before.before.before.before)
+put_some-requires-in-loop-r : tie.Need-put_some-requires-in-loop-r invariant-loop decreases-loop
+put_some-requires-in-loop-r c κs = (omega arith, omega arith, in_k c.before.before.before.before.before.before.before.before.before)
 
-loop-again : tie.Need-loop-preserved invariant-loop decreases-loop
-loop-again c =
-    let turn = c.before.before.before.before.before.before.before.before.before.before.before.before in
-    let m = turn.before.before.before.before.before.args in
-    let before = turn.before.loop.invariant in
-    let more = turn.loop-test.true in (
-      gain_put m.f.now binary32 m.v c.before.before.before.gain-row.result c.before.before.before.gain-row.ensures before.0 more c.before.before.put-some2.ensures,
-      row_put m.f.now before.1 more c.before.before.before.before.before.before.before.put_some.ensures,
+loop-r-preserved : tie.Need-loop-r-preserved invariant-loop decreases-loop
+loop-r-preserved c =
+    let m = c.args in
+    let before = c.loop-r.invariant in
+    let more = c.loop-r-test.true in (
+      gain_put m.f.now binary32 m.v c.gain_row.result c.gain_row.ensures before.0 more c.put_some-in-loop-r.ensures,
+      row_put m.f.now before.1 more c.put_some.ensures,
     )
 
-pub put-gains-spec : {M : Type 1} → statement M
-put-gains-spec =
+pub put_gains_spec : {M : Type 1} → statement M
+put_gains_spec =
     tie.close
     (tie.spec
     invariant-loop
@@ -68,13 +64,13 @@ put-gains-spec =
     (λ c. omega (arith, in_f c.before.before))
     (λ c. omega (arith, in_f c.before.before.before))
     (λ c. omega (arith, in_f c.before.before.before.before))
-    put-some-requires
+    put_some-requires
     (λ c. omega (arith, in_f c.before.before.before.before.before.before.before.before))
     (λ c κs. search rules)
-    put-some-requires-2
+    put_some-requires-in-loop-r
     (λ c. omega arith)
     (λ c. omega arith)
-    loop-again
-    (λ c. c.before.loop.invariant.0.size)
-    (λ c. c.before.loop.invariant.1.size)
-    (λ c. (all_rows c.before.loop.invariant.0 c.loop-test.false, all_rows c.before.loop.invariant.1 c.loop-test.false)))
+    loop-r-preserved
+    (λ c. c.loop-r.invariant.0.size)
+    (λ c. c.loop-r.invariant.1.size)
+    (λ c. (all_rows c.loop-r.invariant.0 c.loop-r-test.false, all_rows c.loop-r.invariant.1 c.loop-r-test.false)))

@@ -9,12 +9,12 @@ use Rattle.three_gains.proofs.solve.Tie as tie
 
 returns : tie.Need-returns
 returns c =
-    let m = c.before.before.before.before.before.before.before.before.before.before.before.before.before.args in
-    let made = c.before.before.before.before.before.before.before.before.four-columns in
-    solved_from binary32 (product binary32 m.n 4 m.hp.now m.t.now) m.r.now _ _ (omega arith) made.ensures c.solve-three.ensures
+    let m = c.args in
+    let made = c.four_columns in
+    solved_from binary32 (product binary32 m.n 4 m.hp.now m.t.now) m.r.now _ _ (omega arith) made.ensures c.solve_three.ensures
 
-pub solve-spec : {M : Type 1} → statement M
-solve-spec =
+pub solve_spec : {M : Type 1} → statement M
+solve_spec =
     tie.close
     (tie.spec
     (λ c. search rules)

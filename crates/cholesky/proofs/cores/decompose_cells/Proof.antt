@@ -11,52 +11,52 @@ use Rattle.factors.proofs.Sweep.{end_refused, cleared}
 use Rattle.cholesky.proofs.cores.decompose_cells.Statement.{statement}
 use Rattle.cholesky.proofs.cores.decompose_cells.Tie as tie
 
-decompose-three-requires : tie.Need-decompose-three-requires
-decompose-three-requires c κs = let s = c.before.before.before in subst (λ (k : ℕ). k * k ≤ length s.args.t.now) c.before.if1.true s.requires
+decompose_three-requires : tie.Need-decompose_three-requires
+decompose_three-requires c κs = subst (λ (k : ℕ). k * k ≤ length c.args.t.now) c.if-n-eq3.true c.requires
 
-same_length : tie.Need-same-length
-same_length c = search rules
+shape_of-t-then-n-eq3 : tie.Need-shape_of-t-then-n-eq3
+shape_of-t-then-n-eq3 c = search rules
+
+returns-then-n-eq3 : tie.Need-returns-then-n-eq3
+returns-then-n-eq3 c =
+    let t = c.args.t.now in
+    let d = c.decompose_three in
+    subst (λ (k : ℕ). (d.result ≡ reached binary32 k (cell k t)) × (d.new.t ≡ grid k k (decomposed binary32 k (cell k t)) t)) (sym c.if-n-eq3.true) d.ensures
+
+fill_columns-i-requires : tie.Need-fill_columns-i-requires
+fill_columns-i-requires c κs = search rules
+
+shape_of-t-then-i-n : tie.Need-shape_of-t-then-i-n
+shape_of-t-then-i-n c = search rules
+
+returns-then-i-n : tie.Need-returns-then-i-n
+returns-then-i-n c =
+    let m = c.args in
+    let s = c.fill_columns-i.ensures in
+    (s.0, s.1 ∙ ap (λ (g : ℕ → ℕ → Float). grid m.n m.n g m.t.now) (end_refused binary32 m.n (cell m.n m.t.now) _ c.if-i-n.true (sym s.0)))
+
+clear_upper-requires : tie.Need-clear_upper-requires
+clear_upper-requires c κs = search rules
+
+shape_of-t : tie.Need-shape_of-t
+shape_of-t c = search rules
 
 returns : tie.Need-returns
 returns c =
-    let t = c.before.before.before.before.before.before.args.t.now in
-    let d = c.before.before.decompose-three in
-    subst (λ (k : ℕ). (d.result ≡ reached binary32 k (cell k t)) × (d.new.0 ≡ grid k k (decomposed binary32 k (cell k t)) t)) (sym c.before.before.before.before.if1.true) d.ensures
+    let m = c.args in
+    let s = c.fill_columns-i.ensures in
+    (s.0, cleared binary32 m.n m.t.now _ _ _ (omega arith) c.if-i-n.false (sym s.0) s.1 c.clear_upper.ensures)
 
-fill-columns-requires : tie.Need-fill-columns-requires
-fill-columns-requires c κs = search rules
-
-same-length-2 : tie.Need-same-length-2
-same-length-2 c = search rules
-
-returns-2 : tie.Need-returns-2
-returns-2 c =
-    let m = c.before.before.before.before.before.before.before.args in
-    let s = c.before.before.before.fill-columns.ensures in
-    (s.0, s.1 ∙ ap (λ (g : ℕ → ℕ → Float). grid m.n m.n g m.t.now) (end_refused binary32 m.n (cell m.n m.t.now) _ c.if2.true (sym s.0)))
-
-clear-upper-requires : tie.Need-clear-upper-requires
-clear-upper-requires c κs = search rules
-
-same-length-3 : tie.Need-same-length-3
-same-length-3 c = search rules
-
-returns-3 : tie.Need-returns-3
-returns-3 c =
-    let m = c.before.before.before.before.before.before.before.before.before.before.before.args in
-    let s = c.before.before.before.before.before.before.before.fill-columns.ensures in
-    (s.0, cleared binary32 m.n m.t.now _ _ _ (omega arith) c.before.before.before.before.if2.false (sym s.0) s.1 c.before.before.clear-upper.ensures)
-
-pub decompose-cells-spec : {M : Type 1} → statement M
-decompose-cells-spec =
+pub decompose_cells_spec : {M : Type 1} → statement M
+decompose_cells_spec =
     tie.close
     (tie.spec
-    decompose-three-requires
-    same_length
-    returns
-    fill-columns-requires
-    same-length-2
-    returns-2
-    clear-upper-requires
-    same-length-3
-    returns-3)
+    decompose_three-requires
+    shape_of-t-then-n-eq3
+    returns-then-n-eq3
+    fill_columns-i-requires
+    shape_of-t-then-i-n
+    returns-then-i-n
+    clear_upper-requires
+    shape_of-t
+    returns)

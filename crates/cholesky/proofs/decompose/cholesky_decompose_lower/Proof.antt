@@ -11,46 +11,46 @@ use Rattle.cholesky.proofs.decompose.cholesky_decompose_lower.Statement.{stateme
 use Rattle.cholesky.proofs.decompose.cholesky_decompose_lower.Tie as tie
 
 -- the size is taken and the buffer holds the matrix
-done : (c : tie.Then1) → let a = c.before.before.before.before.args in is_done (square_answer a.n (length a.t.now)) ≡ true
-done c = accepted c.before.before.square.ensures c.before.is-done.ensures c.if1.true
+done : (c : tie.Then-is_done) → let a = c.args in is_done (square_answer a.n (length a.t.now)) ≡ true
+done c = accepted c.square-v.ensures c.is_done.ensures c.if-is_done.true
 
-square-requires : tie.Need-square-requires
-square-requires c κs = search rules
+square-v-requires : tie.Need-square-v-requires
+square-v-requires c κs = search rules
 
-is-done-requires : tie.Need-is-done-requires
-is-done-requires c κs = search rules
+is_done-requires : tie.Need-is_done-requires
+is_done-requires c κs = search rules
 
-decompose-cells-requires : tie.Need-decompose-cells-requires
-decompose-cells-requires c κs = square_fits _ _ (done c.before)
+decompose_cells-i-requires : tie.Need-decompose_cells-i-requires
+decompose_cells-i-requires c κs = square_fits _ _ (done c.before)
 
-same_length : tie.Need-same-length
-same_length c = search rules
+shape_of-t-then-i-n : tie.Need-shape_of-t-then-i-n
+shape_of-t-then-i-n c = search rules
 
-returns : tie.Need-returns
-returns c =
-    let s = c.before.before.before.decompose-cells.ensures in
-    refused_late _ _ _ _ _ (done c.before.before.before.before.before) s.0 s.1 c.if2.true
+returns-then-i-n : tie.Need-returns-then-i-n
+returns-then-i-n c =
+    let s = c.decompose_cells-i.ensures in
+    refused_late _ _ _ _ _ (done c.before.before.before.before.before) s.0 s.1 c.if-i-n.true
 
-same-length-2 : tie.Need-same-length-2
-same-length-2 c = search rules
+shape_of-t : tie.Need-shape_of-t
+shape_of-t c = search rules
 
-returns-2 : tie.Need-returns-2
-returns-2 c =
-    let s = c.before.before.before.decompose-cells.ensures in
-    all_taken _ _ _ _ _ (done c.before.before.before.before.before) s.0 s.1 _ c.before.before.before.before.before.before.before.square.ensures c.if2.false
+returns-else-i-n : tie.Need-returns-else-i-n
+returns-else-i-n c =
+    let s = c.decompose_cells-i.ensures in
+    all_taken _ _ _ _ _ (done c.before.before.before.before.before) s.0 s.1 _ c.square-v.ensures c.if-i-n.false
 
-returns-3 : tie.Need-returns-3
-returns-3 c = refused_early _ _ _ _ c.before.before.square.ensures (sym c.before.is-done.ensures ∙ c.if1.false)
+returns-else-is_done : tie.Need-returns-else-is_done
+returns-else-is_done c = refused_early _ _ _ _ c.square-v.ensures (sym c.is_done.ensures ∙ c.if-is_done.false)
 
-pub cholesky-decompose-lower-spec : {M : Type 1} → statement M
-cholesky-decompose-lower-spec =
+pub cholesky_decompose_lower_spec : {M : Type 1} → statement M
+cholesky_decompose_lower_spec =
     tie.close
     (tie.spec
-    square-requires
-    is-done-requires
-    decompose-cells-requires
-    same_length
-    returns
-    same-length-2
-    returns-2
-    returns-3)
+    square-v-requires
+    is_done-requires
+    decompose_cells-i-requires
+    shape_of-t-then-i-n
+    returns-then-i-n
+    shape_of-t
+    returns-else-i-n
+    returns-else-is_done)

@@ -12,66 +12,66 @@ use Rattle.factors.proofs.Triangle.{clear_start, clear_more, clear_end}
 use Rattle.cholesky.proofs.upper.clear_column.Statement.{statement}
 use Rattle.cholesky.proofs.upper.clear_column.Tie as tie
 
-abbrev invariant-loop : tie.invariant-loop
+abbrev invariant-loop : tie.invariant-loop-j
 invariant-loop n i t₀ j₀ t j = (j ≤ i) × (length t ≡ length t₀) × (t ≡ grid n n (up_to j (clear_column (cell n t₀) i) (cell n t₀)) t₀)
 
-abbrev decreases-loop : tie.decreases-loop
+abbrev decreases-loop : tie.decreases-loop-j
 decreases-loop n i t₀ j₀ t j = i - j
 
 -- row j lies in the buffer
-in_t : (c : tie.In-loop invariant-loop decreases-loop) → let m = c.before.before.args in c.before.loop.j * m.n + m.n ≤ length m.t.now
-in_t c = let m = c.before.before.args in omega (arith, row_in m.n m.n c.before.loop.j (omega arith))
+in_t : (c : tie.In-loop-j invariant-loop decreases-loop) → let m = c.args in c.loop-j.j * m.n + m.n ≤ length m.t.now
+in_t c = let m = c.args in omega (arith, row_in m.n m.n c.loop-j.j (omega arith))
 
-loop-holds : tie.Need-loop-init invariant-loop decreases-loop
-loop-holds c = let m = c.args in (omega arith, refl, clear_start m.n m.t.now m.i (omega arith) (omega arith))
+loop-j-init : tie.Need-loop-j-init invariant-loop decreases-loop
+loop-j-init c = let m = c.args in (omega arith, refl, clear_start m.n m.t.now m.i (omega arith) (omega arith))
 
-mul-t : tie.Need-overflow-mul-t invariant-loop decreases-loop
-mul-t c = omega (arith, in_t c)
+overflow_mul-t : tie.Need-overflow_mul-t invariant-loop decreases-loop
+overflow_mul-t c = omega (arith, in_t c)
 
-add-t : tie.Need-overflow-add-t invariant-loop decreases-loop
-add-t c = omega (arith, in_t c)
+overflow_add-t : tie.Need-overflow_add-t invariant-loop decreases-loop
+overflow_add-t c = omega (arith, in_t c)
 
-mul-t-2 : tie.Need-overflow-mul-t-2 invariant-loop decreases-loop
-mul-t-2 c = omega (arith, in_t c)
+offset_bounds-t-j : tie.Need-offset_bounds-t-j invariant-loop decreases-loop
+offset_bounds-t-j c = omega (arith, in_t c)
 
-slice-write-t : tie.Need-slice-write-t invariant-loop decreases-loop
-slice-write-t c = omega (arith, in_t c)
+bounds-t-j : tie.Need-bounds-t-j invariant-loop decreases-loop
+bounds-t-j c = omega (arith, in_t c)
 
-add-j : tie.Need-overflow-add-j invariant-loop decreases-loop
-add-j c = omega arith
+overflow_add-j : tie.Need-overflow_add-j invariant-loop decreases-loop
+overflow_add-j c = omega arith
 
-loop-less : tie.Need-loop-smaller invariant-loop decreases-loop
-loop-less c = omega arith
+loop-j-smaller : tie.Need-loop-j-smaller invariant-loop decreases-loop
+loop-j-smaller c = omega arith
 
-loop-again : tie.Need-loop-preserved invariant-loop decreases-loop
+loop-j-preserved : tie.Need-loop-j-preserved invariant-loop decreases-loop
 unfolding of_bits
-loop-again c =
-    let m = c.before.before.args in
-    let w = c.before.loop in
+loop-j-preserved c =
+    let m = c.args in
+    let w = c.loop-j in
     (omega arith, simp length-set (omega arith), clear_more m.n m.t.now m.i (omega arith) (omega arith) w.t w.j (omega arith) w.invariant.2)
 
-same_length : tie.Need-same-length invariant-loop decreases-loop
-same_length c = c.before.loop.invariant.1
+shape_of-t : tie.Need-shape_of-t invariant-loop decreases-loop
+shape_of-t c = c.loop-j.invariant.1
 
 returns : tie.Need-returns invariant-loop decreases-loop
 returns c =
-    let m = c.before.before.args in
-    let k : c.before.loop.j ≡ m.i = omega arith in
-    (rw k at c.before.loop.invariant.2) ∙ clear_end m.n m.t.now m.i (omega arith) (omega arith)
+    let m = c.args in
+    let k : c.loop-j.j ≡ m.i = omega arith in
+    (rw k at c.loop-j.invariant.2) ∙ clear_end m.n m.t.now m.i (omega arith) (omega arith)
 
-pub clear-column-spec : {M : Type 1} → statement M
-clear-column-spec =
+pub clear_column_spec : {M : Type 1} → statement M
+clear_column_spec =
     tie.close
     (tie.spec
     invariant-loop
     decreases-loop
-    loop-holds
-    mul-t
-    add-t
-    mul-t-2
-    slice-write-t
-    add-j
-    loop-less
-    loop-again
-    same_length
+    loop-j-init
+    overflow_mul-t
+    overflow_add-t
+    offset_bounds-t-j
+    bounds-t-j
+    overflow_add-j
+    loop-j-smaller
+    loop-j-preserved
+    shape_of-t
     returns)

@@ -8,52 +8,52 @@ use Rattle.factors.proofs.Triangle.{lower_to, upper_start, upper_more, upper_end
 use Rattle.cholesky.proofs.upper.clear_upper.Statement.{statement}
 use Rattle.cholesky.proofs.upper.clear_upper.Tie as tie
 
-abbrev invariant-loop : tie.invariant-loop
+abbrev invariant-loop : tie.invariant-loop-i
 invariant-loop n t₀ i₀ t i = (i ≤ n) × (length t ≡ length t₀) × (t ≡ grid n n (lower_to i (cell n t₀)) t₀)
 
-abbrev decreases-loop : tie.decreases-loop
+abbrev decreases-loop : tie.decreases-loop-i
 decreases-loop n t₀ i₀ t i = n - i
 
-loop-holds : tie.Need-loop-init invariant-loop decreases-loop
-loop-holds c = (omega arith, refl, upper_start c.before.args.n c.before.args.t.now)
+loop-i-init : tie.Need-loop-i-init invariant-loop decreases-loop
+loop-i-init c = (omega arith, refl, upper_start c.args.n c.args.t.now)
 
-clear-column-requires : tie.Need-clear-column-requires invariant-loop decreases-loop
-clear-column-requires c κs = omega arith
+clear_column-requires : tie.Need-clear_column-requires invariant-loop decreases-loop
+clear_column-requires c κs = omega arith
 
-add-i : tie.Need-overflow-add-i invariant-loop decreases-loop
-add-i c = omega arith
+overflow_add-i : tie.Need-overflow_add-i invariant-loop decreases-loop
+overflow_add-i c = omega arith
 
-loop-less : tie.Need-loop-smaller invariant-loop decreases-loop
-loop-less c = omega arith
+loop-i-smaller : tie.Need-loop-i-smaller invariant-loop decreases-loop
+loop-i-smaller c = omega arith
 
-loop-again : tie.Need-loop-preserved invariant-loop decreases-loop
-loop-again c = (
+loop-i-preserved : tie.Need-loop-i-preserved invariant-loop decreases-loop
+loop-i-preserved c = (
   omega arith,
   omega arith,
-  (let m = c.before.before.before.before.before.before.before.args in
-      let w = c.before.before.before.before.before.loop in
-      upper_more m.n m.t.now w.t _ w.i (omega arith) w.invariant.2 c.before.before.clear-column.ensures),
+  (let m = c.args in
+      let w = c.loop-i in
+      upper_more m.n m.t.now w.t _ w.i (omega arith) w.invariant.2 c.clear_column.ensures),
 )
 
-same_length : tie.Need-same-length invariant-loop decreases-loop
-same_length c = c.before.loop.invariant.1
+shape_of-t : tie.Need-shape_of-t invariant-loop decreases-loop
+shape_of-t c = c.loop-i.invariant.1
 
 returns : tie.Need-returns invariant-loop decreases-loop
 returns c =
-    let m = c.before.before.before.args in
-    let k : c.before.loop.i ≡ m.n = omega arith in
-    (rw k at c.before.loop.invariant.2) ∙ upper_end m.n m.t.now
+    let m = c.args in
+    let k : c.loop-i.i ≡ m.n = omega arith in
+    (rw k at c.loop-i.invariant.2) ∙ upper_end m.n m.t.now
 
-pub clear-upper-spec : {M : Type 1} → statement M
-clear-upper-spec =
+pub clear_upper_spec : {M : Type 1} → statement M
+clear_upper_spec =
     tie.close
     (tie.spec
     invariant-loop
     decreases-loop
-    loop-holds
-    clear-column-requires
-    add-i
-    loop-less
-    loop-again
-    same_length
+    loop-i-init
+    clear_column-requires
+    overflow_add-i
+    loop-i-smaller
+    loop-i-preserved
+    shape_of-t
     returns)

@@ -10,16 +10,16 @@ use Rattle.inverse.proofs.cores.by_passes.Tie as tie
 solve-requires : tie.Need-solve-requires
 solve-requires c κs = search rules
 
-solve-back-requires : tie.Need-solve-back-requires
-solve-back-requires c κs = search rules
+solve_back-requires : tie.Need-solve_back-requires
+solve_back-requires c κs = search rules
 
-same_length : tie.Need-same-length
-same_length c = search rules
+shape_of-inv : tie.Need-shape_of-inv
+shape_of-inv c = search rules
 
 returns : tie.Need-returns
 returns c =
-    let m = c.before.before.before.before.before.before.before.before.before.before.args in
-    both binary32 m.n (cell m.n m.l.now) m.inv.now _ _ (omega arith) c.before.before.before.before.before.before.solve.ensures c.before.before.solve-back.ensures
+    let m = c.args in
+    both binary32 m.n (cell m.n m.l.now) m.inv.now _ _ (omega arith) c.solve.ensures c.solve_back.ensures
 
-pub by-passes-spec : {M : Type 1} → statement M
-by-passes-spec = tie.close (tie.spec solve-requires solve-back-requires same_length returns)
+pub by_passes_spec : {M : Type 1} → statement M
+by_passes_spec = tie.close (tie.spec solve-requires solve_back-requires shape_of-inv returns)

@@ -9,16 +9,15 @@ use Rattle.factors.specs.Inverse.{inverse}
 use Rattle.inverse.proofs.cores.invert_cells.Statement.{statement}
 use Rattle.inverse.proofs.cores.invert_cells.Tie as tie
 
-invert-three-requires : tie.Need-invert-three-requires
-invert-three-requires c κs =
-    let s = c.before.before.before.before in
-    subst (λ (k : ℕ). (k * k ≤ length s.args.l.now) × (k * k ≤ length s.args.inv.now)) c.before.if1.true s.requires
+invert_three-requires : tie.Need-invert_three-requires
+invert_three-requires c κs =
+    subst (λ (k : ℕ). (k * k ≤ length c.args.l.now) × (k * k ≤ length c.args.inv.now)) c.if-n-eq3.true c.requires
 
-returns : tie.Need-returns
-returns c =
-    let m = c.before.before.before.before.before.before.before.args in
-    let v = c.before.before.invert-three in
-    subst (λ (k : ℕ). v.new.1.0 ≡ grid k k (inverse binary32 k (cell k m.l.now) (cell k m.inv.now)) m.inv.now) (sym c.before.before.before.before.if1.true) v.ensures
+returns-then-n-eq3 : tie.Need-returns-then-n-eq3
+returns-then-n-eq3 c =
+    let m = c.args in
+    let v = c.invert_three in
+    subst (λ (k : ℕ). v.new.inv ≡ grid k k (inverse binary32 k (cell k m.l.now) (cell k m.inv.now)) m.inv.now) (sym c.if-n-eq3.true) v.ensures
 
-pub invert-cells-spec : {M : Type 1} → statement M
-invert-cells-spec = tie.close (tie.spec invert-three-requires (λ c κs. search rules) (λ c. search rules) returns (λ c. search rules) (λ c. search rules))
+pub invert_cells_spec : {M : Type 1} → statement M
+invert_cells_spec = tie.close (tie.spec invert_three-requires (λ c κs. search rules) (λ c. search rules) returns-then-n-eq3 (λ c. search rules) (λ c. search rules))

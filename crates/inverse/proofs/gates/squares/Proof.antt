@@ -5,18 +5,18 @@ use Rattle.factors.specs.Inverted.{squares_answer}
 use Rattle.inverse.proofs.gates.squares.Statement.{statement}
 use Rattle.inverse.proofs.gates.squares.Tie as tie
 
-then-size-requires : tie.Need-then-size-requires
-then-size-requires c κs = search rules
+then_size-requires : tie.Need-then_size-requires
+then_size-requires c κs = search rules
 
-then-matrix-requires : tie.Need-then-matrix-requires
-then-matrix-requires c κs = search rules
+then_matrix-first-requires : tie.Need-then_matrix-first-requires
+then_matrix-first-requires c κs = search rules
 
-then-matrix-requires-2 : tie.Need-then-matrix-requires-2
-then-matrix-requires-2 c κs = search rules
+then_matrix-requires : tie.Need-then_matrix-requires
+then_matrix-requires c κs = search rules
 
 returns : tie.Need-returns
 unfolding squares_answer
-returns c = asked _ (asked _ c.before.before.then-size.ensures c.before.then-matrix.ensures) c.then-matrix2.ensures
+returns c = asked _ (asked _ c.then_size.ensures c.then_matrix-first.ensures) c.then_matrix.ensures
 
-pub squares-spec : {M : Type 1} → statement M
-squares-spec = tie.close (tie.spec then-size-requires then-matrix-requires then-matrix-requires-2 returns)
+pub squares_spec : {M : Type 1} → statement M
+squares_spec = tie.close (tie.spec then_size-requires then_matrix-first-requires then_matrix-requires returns)

@@ -6,34 +6,34 @@ use Rattle.factors.proofs.InverseCalls.{squares_fit}
 use Rattle.inverse.proofs.invert.invert_l_cholesky.Statement.{statement}
 use Rattle.inverse.proofs.invert.invert_l_cholesky.Tie as tie
 
-squares-requires : tie.Need-squares-requires
-squares-requires c κs = search rules
+squares-v-requires : tie.Need-squares-v-requires
+squares-v-requires c κs = search rules
 
-is-done-requires : tie.Need-is-done-requires
-is-done-requires c κs = search rules
+is_done-requires : tie.Need-is_done-requires
+is_done-requires c κs = search rules
 
-invert-cells-requires : tie.Need-invert-cells-requires
-invert-cells-requires c κs = squares_fit _ _ _ (accepted c.before.before.before.squares.ensures c.before.before.is-done.ensures c.before.if1.true)
+invert_cells-requires : tie.Need-invert_cells-requires
+invert_cells-requires c κs = squares_fit _ _ _ (accepted c.squares-v.ensures c.is_done.ensures c.if-is_done.true)
 
-same_length : tie.Need-same-length
-same_length c = search rules
+shape_of-inv : tie.Need-shape_of-inv
+shape_of-inv c = search rules
 
-returns : tie.Need-returns
-returns c = record {
-  answer = c.before.before.before.before.before.before.squares.ensures;
-  after = simp (sym c.before.before.before.before.before.is-done.ensures ∙ c.before.before.before.before.if1.true) c.before.before.invert-cells.ensures;
+returns-then-is_done : tie.Need-returns-then-is_done
+returns-then-is_done c = record {
+  answer = c.squares-v.ensures;
+  after = simp (sym c.is_done.ensures ∙ c.if-is_done.true) c.invert_cells.ensures;
 }
 
-returns-2 : tie.Need-returns-2
-returns-2 c = record { answer = c.before.before.squares.ensures; after = simp (sym c.before.is-done.ensures ∙ c.if1.false) }
+returns-else-is_done : tie.Need-returns-else-is_done
+returns-else-is_done c = record { answer = c.squares-v.ensures; after = simp (sym c.is_done.ensures ∙ c.if-is_done.false) }
 
-pub invert-l-cholesky-spec : {M : Type 1} → statement M
-invert-l-cholesky-spec =
+pub invert_l_cholesky_spec : {M : Type 1} → statement M
+invert_l_cholesky_spec =
     tie.close
     (tie.spec
-    squares-requires
-    is-done-requires
-    invert-cells-requires
-    same_length
-    returns
-    returns-2)
+    squares-v-requires
+    is_done-requires
+    invert_cells-requires
+    shape_of-inv
+    returns-then-is_done
+    returns-else-is_done)

@@ -12,44 +12,44 @@ use Rattle.entries.proofs.Places.{rows_in}
 use Rattle.times_transpose.proofs.added.transb_add_row.Statement.{statement}
 use Rattle.times_transpose.proofs.added.transb_add_row.Tie as tie
 
-abbrev invariant-loop : tie.invariant-loop
+abbrev invariant-loop : tie.invariant-loop-j
 invariant-loop inner cols a b r c₀ at j₀ c j = Writing (r * cols) cols (λ i. add binary32 (cell cols c₀ r i) (product_t binary32 inner a b r i)) c₀ c j
 
-abbrev decreases-loop : tie.decreases-loop
+abbrev decreases-loop : tie.decreases-loop-j
 decreases-loop inner cols a b r c₀ at j₀ c j = cols - j
 
-abbrev invariant-loop2 : tie.invariant-loop2
+abbrev invariant-loop2 : tie.invariant-loop-j-2
 invariant-loop2 inner cols a b r c₀ at j₀ c j = Onward (r * cols) cols (λ z. (λ i. add binary32 (cell cols z r i) (product_t binary32 inner a b r i))) c₀ j₀ c j
 
-abbrev decreases-loop2 : tie.decreases-loop2
+abbrev decreases-loop2 : tie.decreases-loop-j-2
 decreases-loop2 inner cols a b r c₀ at j₀ c j = cols - j
 
-four-rows-requires : tie.Need-four-rows-requires invariant-loop decreases-loop invariant-loop2 decreases-loop2
-four-rows-requires c κs =
-    let m = c.before.before.before.before.before.before.args in
-    omega (arith, rows_in m.cols m.inner c.before.before.loop.j c.before.loop-test.true)
+four_rows-requires : tie.Need-four_rows-requires invariant-loop decreases-loop invariant-loop2 decreases-loop2
+four_rows-requires c κs =
+    let m = c.args in
+    omega (arith, rows_in m.cols m.inner c.loop-j.j c.loop-j-test.true)
 
-loop-again : tie.Need-loop-preserved invariant-loop decreases-loop invariant-loop2 decreases-loop2
-loop-again c =
-    let t = c.before.before.before.four-rows.ensures in
-    four_added binary32 _ (λ i. refl) c.before.before.before.before.before.before.loop.invariant c.before.before.before.before.before.loop-test.true refl t c.before.before.add.ensures
+loop-j-preserved : tie.Need-loop-j-preserved invariant-loop decreases-loop invariant-loop2 decreases-loop2
+loop-j-preserved c =
+    let t = c.four_rows.ensures in
+    four_added binary32 _ (λ i. refl) c.loop-j.invariant c.loop-j-test.true refl t c.add.ensures
 
-row-total-requires : tie.Need-row-total-requires invariant-loop decreases-loop invariant-loop2 decreases-loop2
-row-total-requires c κs =
-    let m = c.before.before.before.before.before.before.before.before.args in
-    omega (arith, row_in m.cols m.inner c.before.before.loop2.j c.before.loop2-test.true)
+row_total-requires : tie.Need-row_total-requires invariant-loop decreases-loop invariant-loop2 decreases-loop2
+row_total-requires c κs =
+    let m = c.args in
+    omega (arith, row_in m.cols m.inner c.loop-j-2.j c.loop-j-2-test.true)
 
-loop2-again : tie.Need-loop2-preserved invariant-loop decreases-loop invariant-loop2 decreases-loop2
-loop2-again c = one_added binary32 _ (λ z i. refl) c.before.before.before.loop2.invariant c.before.before.loop2-test.true refl c.row-total.ensures
+loop-j-2-preserved : tie.Need-loop-j-2-preserved invariant-loop decreases-loop invariant-loop2 decreases-loop2
+loop-j-2-preserved c = one_added binary32 _ (λ z i. refl) c.loop-j-2.invariant c.loop-j-2-test.true refl c.row_total.ensures
 
-same_length : tie.Need-same-length invariant-loop decreases-loop invariant-loop2 decreases-loop2
-same_length c = c.before.loop2.invariant.size ∙ c.before.before.before.loop.invariant.size
+shape_of-c : tie.Need-shape_of-c invariant-loop decreases-loop invariant-loop2 decreases-loop2
+shape_of-c c = c.loop-j-2.invariant.size ∙ c.loop-j.invariant.size
 
 returns : tie.Need-returns invariant-loop decreases-loop invariant-loop2 decreases-loop2
-returns c = all_onward c.before.before.before.loop.invariant c.before.loop2.invariant c.loop2-test.false
+returns c = all_onward c.loop-j.invariant c.loop-j-2.invariant c.loop-j-2-test.false
 
-pub transb-add-row-spec : {M : Type 1} → statement M
-transb-add-row-spec =
+pub transb_add_row_spec : {M : Type 1} → statement M
+transb_add_row_spec =
     tie.close
     (tie.spec
     invariant-loop
@@ -60,21 +60,21 @@ transb-add-row-spec =
     (λ c. begun)
     (λ c. omega arith)
     (λ c. omega arith)
-    four-rows-requires
+    four_rows-requires
     (λ c κs. omega arith)
     (λ c. omega arith)
     (λ c. omega arith)
-    loop-again
-    (λ c. onward c.before.loop.invariant.within)
+    loop-j-preserved
+    (λ c. onward c.loop-j.invariant.within)
     (λ c. omega arith)
     (λ c. omega arith)
     (λ c. omega arith)
-    row-total-requires
+    row_total-requires
     (λ c. omega arith)
     (λ c. omega arith)
     (λ c. omega arith)
     (λ c. omega arith)
     (λ c. omega arith)
-    loop2-again
-    same_length
+    loop-j-2-preserved
+    shape_of-c
     returns)

@@ -11,45 +11,45 @@ use Rattle.entries.proofs.Places.{rows_in}
 use Rattle.times_transpose.proofs.scaled.transb_scale_row.Statement.{statement}
 use Rattle.times_transpose.proofs.scaled.transb_scale_row.Tie as tie
 
-abbrev invariant-loop : tie.invariant-loop
+abbrev invariant-loop : tie.invariant-loop-j
 invariant-loop inner cols a b scale r c₀ at j₀ c j = Writing (r * cols) cols (λ i. mul binary32 (product_t binary32 inner a b r i) scale) c₀ c j
 
-abbrev decreases-loop : tie.decreases-loop
+abbrev decreases-loop : tie.decreases-loop-j
 decreases-loop inner cols a b scale r c₀ at j₀ c j = cols - j
 
-abbrev invariant-loop2 : tie.invariant-loop2
+abbrev invariant-loop2 : tie.invariant-loop-j-2
 invariant-loop2 inner cols a b scale r c₀ at j₀ c j = Onward (r * cols) cols (λ z. (λ i. mul binary32 (product_t binary32 inner a b r i) scale)) c₀ j₀ c j
 
-abbrev decreases-loop2 : tie.decreases-loop2
+abbrev decreases-loop2 : tie.decreases-loop-j-2
 decreases-loop2 inner cols a b scale r c₀ at j₀ c j = cols - j
 
-four-rows-requires : tie.Need-four-rows-requires invariant-loop decreases-loop invariant-loop2 decreases-loop2
-four-rows-requires c κs =
-    let m = c.before.before.before.before.before.before.args in
-    omega (arith, rows_in m.cols m.inner c.before.before.loop.j c.before.loop-test.true)
+four_rows-requires : tie.Need-four_rows-requires invariant-loop decreases-loop invariant-loop2 decreases-loop2
+four_rows-requires c κs =
+    let m = c.args in
+    omega (arith, rows_in m.cols m.inner c.loop-j.j c.loop-j-test.true)
 
-loop-again : tie.Need-loop-preserved invariant-loop decreases-loop invariant-loop2 decreases-loop2
-loop-again c =
-    let t = c.before.before.before.before.four-rows.ensures in
-    let s = c.before.before.before.scaled.ensures in
-    four_scaled binary32 _ _ c.before.before.before.before.before.before.before.loop.invariant c.before.before.before.before.before.before.loop-test.true refl s t c.before.before.put.ensures
+loop-j-preserved : tie.Need-loop-j-preserved invariant-loop decreases-loop invariant-loop2 decreases-loop2
+loop-j-preserved c =
+    let t = c.four_rows.ensures in
+    let s = c.scaled.ensures in
+    four_scaled binary32 _ _ c.loop-j.invariant c.loop-j-test.true refl s t c.put.ensures
 
-row-total-requires : tie.Need-row-total-requires invariant-loop decreases-loop invariant-loop2 decreases-loop2
-row-total-requires c κs =
-    let m = c.before.before.before.before.before.before.before.args in
-    omega (arith, row_in m.cols m.inner c.before.loop2.j c.loop2-test.true)
+row_total-requires : tie.Need-row_total-requires invariant-loop decreases-loop invariant-loop2 decreases-loop2
+row_total-requires c κs =
+    let m = c.args in
+    omega (arith, row_in m.cols m.inner c.loop-j-2.j c.loop-j-2-test.true)
 
-loop2-again : tie.Need-loop2-preserved invariant-loop decreases-loop invariant-loop2 decreases-loop2
-loop2-again c = one_onward c.before.before.loop2.invariant c.before.loop2-test.true refl (λ z w. ap (λ (x : Float). mul binary32 x c.before.before.before.before.before.before.before.before.args.scale) c.row-total.ensures)
+loop-j-2-preserved : tie.Need-loop-j-2-preserved invariant-loop decreases-loop invariant-loop2 decreases-loop2
+loop-j-2-preserved c = one_onward c.loop-j-2.invariant c.loop-j-2-test.true refl (λ z w. ap (λ (x : Float). mul binary32 x c.args.scale) c.row_total.ensures)
 
-same_length : tie.Need-same-length invariant-loop decreases-loop invariant-loop2 decreases-loop2
-same_length c = c.before.loop2.invariant.size ∙ c.before.before.before.loop.invariant.size
+shape_of-c : tie.Need-shape_of-c invariant-loop decreases-loop invariant-loop2 decreases-loop2
+shape_of-c c = c.loop-j-2.invariant.size ∙ c.loop-j.invariant.size
 
 returns : tie.Need-returns invariant-loop decreases-loop invariant-loop2 decreases-loop2
-returns c = all_onward c.before.before.before.loop.invariant c.before.loop2.invariant c.loop2-test.false
+returns c = all_onward c.loop-j.invariant c.loop-j-2.invariant c.loop-j-2-test.false
 
-pub transb-scale-row-spec : {M : Type 1} → statement M
-transb-scale-row-spec =
+pub transb_scale_row_spec : {M : Type 1} → statement M
+transb_scale_row_spec =
     tie.close
     (tie.spec
     invariant-loop
@@ -60,19 +60,19 @@ transb-scale-row-spec =
     (λ c. begun)
     (λ c. omega arith)
     (λ c. omega arith)
-    four-rows-requires
+    four_rows-requires
     (λ c κs. omega arith)
     (λ c κs. omega arith)
     (λ c. omega arith)
     (λ c. omega arith)
-    loop-again
-    (λ c. onward c.before.loop.invariant.within)
-    row-total-requires
+    loop-j-preserved
+    (λ c. onward c.loop-j.invariant.within)
+    row_total-requires
     (λ c. omega arith)
     (λ c. omega arith)
     (λ c. omega arith)
     (λ c. omega arith)
     (λ c. omega arith)
-    loop2-again
-    same_length
+    loop-j-2-preserved
+    shape_of-c
     returns)

@@ -7,25 +7,22 @@ use Rattle.thin_products.proofs.Strides.{as_transpose, transpose_in}
 use Rattle.times_transpose.proofs.stored.transb_cells.Statement.{statement}
 use Rattle.times_transpose.proofs.stored.transb_cells.Tie as tie
 
-turned-cells-requires : tie.Need-turned-cells-requires
-turned-cells-requires c κs =
-    let top = c.before.before.before.before.before in
-    let g = top.requires in
-    (c.before.if1.true, g.4, mul-le-mul g.4 g.5, g.0, g.1, g.2)
+turned_cells-requires : tie.Need-turned_cells-requires
+turned_cells-requires c κs =
+    let g = c.requires in
+    (c.if-cols-ge4.true, g.4, mul-le-mul g.4 g.5, g.0, g.1, g.2)
 
-thin-cells-requires : tie.Need-thin-cells-requires
-thin-cells-requires c κs =
-    let top = c.before.before.before.before.before in
-    let m = top.args in
-    let g = top.requires in
-    let few = c.before.if1.false in
+thin_cells-requires : tie.Need-thin_cells-requires
+thin_cells-requires c κs =
+    let m = c.args in
+    let g = c.requires in
+    let few = c.if-cols-ge4.false in
     (g.3, omega (arith, few), g.5, g.0, transpose_in m.inner m.cols m.b.now g.1, g.2)
 
-returns-2 : tie.Need-returns-2
-returns-2 c =
-    let top = c.before.before.before.before.before.before.before.before in
-    let m = top.args in
-    as_transpose binary32 m.rows m.inner m.cols m.a.now m.b.now m.c.now c.before.before.thin-cells.ensures
+returns-else-cols-ge4 : tie.Need-returns-else-cols-ge4
+returns-else-cols-ge4 c =
+    let m = c.args in
+    as_transpose binary32 m.rows m.inner m.cols m.a.now m.b.now m.c.now c.thin_cells.ensures
 
-pub transb-cells-spec : {M : Type 1} → statement M
-transb-cells-spec = tie.close (tie.spec turned-cells-requires thin-cells-requires (λ c. search rules) (λ c. search rules) (λ c. search rules) returns-2)
+pub transb_cells_spec : {M : Type 1} → statement M
+transb_cells_spec = tie.close (tie.spec turned_cells-requires thin_cells-requires (λ c. search rules) (λ c. search rules) (λ c. search rules) returns-else-cols-ge4)
