@@ -11,16 +11,16 @@ use Rattle.four_by_two.proofs.correct_four.Tie as tie
 -- ---- the way back from each step to the one before it
 
 abbrev start : tie.After-read_operands-b → tie.Start
-start c = c.before.before.before.before.before.before.before.before.before.before.before.before.before.before.before
+start c = c.before.before.before.before.before.before.before.before.before.before.before.before.before
 
 abbrev read : tie.After-put_two → tie.After-read_operands-b
 read c = c.before.before.before
 
 abbrev innovated : tie.After-put_eight → tie.After-put_two
-innovated c = c.before.before.before.before
+innovated c = c.before.before.before.before.before
 
 abbrev projected : tie.After-put → tie.After-put_eight
-projected c = c.before.before.before.before.before
+projected c = c.before.before.before.before.before.before.before
 
 abbrev rooted : tie.After-finish → tie.After-put
 rooted c = c.before.before.before.before.before.before.before.before.before.before.before
@@ -35,7 +35,7 @@ stored c = innovated (projected c)
 abbrev lent : tie.After-put → Buffers
 lent c =
     let a = c.args in
-    buffers a.x.now a.p.now a.h.now [] a.r.now c.put_two.new.0 a.s.now a.k.now a.temp-s-inv.now a.temp-hp.now a.temp-pht.now a.temp-khp.now
+    buffers a.x.now a.p.now a.h.now [] a.r.now c.put_two.new.c a.s.now a.k.now a.temp_s_inv.now a.temp-hp.now a.temp-pht.now a.temp-khp.now
 
 -- what is read, seen and decomposed
 begun_is : (c : tie.After-put) → Begun (lent c) c.args.z.now c.read_operands-b.result c.observe-seen.result c.decompose-root.result

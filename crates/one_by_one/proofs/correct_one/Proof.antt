@@ -24,7 +24,7 @@ tested c = c.before.before.before.before.before
 abbrev lent : tie.After-one_more-s00 → Buffers
 lent c =
     let a = c.args in
-    buffers a.x.now a.p.now a.h.now [] a.r.now (set a.y.now 0 (sub binary32 (get_or a.z.now 0 nan) (mul binary32 (get_or a.h.now 0 nan) (get_or a.x.now 0 nan)))) a.s.now a.k.now a.temp-s-inv.now a.temp-hp.now a.temp-pht.now a.temp-khp.now
+    buffers a.x.now a.p.now a.h.now [] a.r.now (set a.y.now 0 (sub binary32 (get_or a.z.now 0 nan) (mul binary32 (get_or a.h.now 0 nan) (get_or a.x.now 0 nan)))) a.s.now a.k.now a.temp_s_inv.now a.temp_hp.now a.temp_pht.now a.temp_khp.now
 
 -- S
 s_is : (c : tie.After-one_more-s00) → c.one_more-s00.result ≡ residual_of binary32 1 (cell 1 (lent c).H) (cell 1 (lent c).P) (cell 1 (lent c).R) 0 0

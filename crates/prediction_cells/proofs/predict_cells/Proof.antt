@@ -11,19 +11,19 @@ use Rattle.prediction_cells.proofs.predict_cells.Tie as tie
 
 -- ---- where the function began, from each of its cases
 
-abbrev start1 : tie.Then1 → tie.Start
+abbrev start1 : tie.Then-n-eq1 → tie.Start
 start1 c = c.before.before.before.before.before.before.before
 
-abbrev start2 : tie.Then2 → tie.Start
+abbrev start2 : tie.Then-n-eq2 → tie.Start
 start2 c = c.before.before.before.before.before.before.before.before
 
-abbrev start3 : tie.Then3 → tie.Start
+abbrev start3 : tie.Then-n-eq4 → tie.Start
 start3 c = c.before.before.before.before.before.before.before.before.before
 
-abbrev start4 : tie.Then4 → tie.Start
+abbrev start4 : tie.Then-n-ge13 → tie.Start
 start4 c = c.before.before.before.before.before.before.before.before.before.before
 
-abbrev start5 : tie.Else4 → tie.Start
+abbrev start5 : tie.Else-n-ge13 → tie.Start
 start5 c = c.before.before.before.before.before.before.before.before.before.before
 
 -- ---- k states in the place of n
@@ -47,38 +47,38 @@ Left s x px P temp k = let a = s.args in
 left : (s : tie.Start) (k : ℕ) {x px P temp : List Float} → s.args.n ≡ k → Left s x px P temp k → Left s x px P temp s.args.n
 left s k {x} {px} {P} {temp} e = subst (Left s x px P temp) (sym e)
 
-pub predict-cells-spec : {M : Type 1} → statement M
-predict-cells-spec =
+pub predict_cells_spec : {M : Type 1} → statement M
+predict_cells_spec =
     tie.close
     (tie.spec
-    (λ c κs. fits (start1 c.before.before.before.before) 1 c.before.before.before.before.if1.true)
-    (λ c. c.before.before.before.before.before.before.before.x.given)
-    (λ c. c.before.before.before.before.before.p.given)
-    (λ c. c.before.before.before.predicted.given)
-    (λ c. c.before.temp.given)
-    (λ c. left (start1 c.before.before.before.before.before.before.before.before.before.before.before.before.before) 1 c.before.before.before.before.before.before.before.before.before.before.before.before.before.if1.true c.before.before.before.before.before.before.before.before.predict-one.ensures)
-    (λ c κs. fits (start2 c.before.before.before.before) 2 c.before.before.before.before.if2.true)
-    (λ c. c.before.before.before.before.before.before.before.x2.given)
-    (λ c. c.before.before.before.before.before.p2.given)
-    (λ c. c.before.before.before.predicted2.given)
-    (λ c. c.before.temp2.given)
-    (λ c. left (start2 c.before.before.before.before.before.before.before.before.before.before.before.before.before) 2 c.before.before.before.before.before.before.before.before.before.before.before.before.before.if2.true c.before.before.before.before.before.before.before.before.predict-two.ensures)
-    (λ c κs. fits (start3 c.before.before.before.before) 4 c.before.before.before.before.if3.true)
-    (λ c. c.before.before.before.before.before.before.before.x3.given)
-    (λ c. c.before.before.before.before.before.p3.given)
-    (λ c. c.before.before.before.predicted3.given)
-    (λ c. c.before.temp3.given)
-    (λ c. left (start3 c.before.before.before.before.before.before.before.before.before.before.before.before.before) 4 c.before.before.before.before.before.before.before.before.before.before.before.before.before.if3.true c.before.before.before.before.before.before.before.before.predict-four.ensures)
-    (λ c κs. let s = start4 c.before.before.before.before in (c.before.before.before.before.if4.true, s.requires.7, s.requires.1, s.requires.2, s.requires.3, s.requires.4, s.requires.5, s.requires.6))
-    (λ c. c.before.before.before.before.before.before.before.x4.given)
-    (λ c. c.before.before.before.before.before.p4.given)
-    (λ c. c.before.before.before.predicted4.given)
-    (λ c. c.before.temp4.given)
-    (λ c. c.before.before.before.before.before.before.before.before.predict-wide.ensures)
+    (λ c κs. fits (start1 c.before.before.before.before) 1 c.if-n-eq1.true)
+    (λ c. c.x-1.given)
+    (λ c. c.p-1.given)
+    (λ c. c.predicted-1.given)
+    (λ c. c.temp-1.given)
+    (λ c. left (start1 c.before.before.before.before.before.before.before.before.before.before.before.before.before) 1 c.if-n-eq1.true c.predict_one.ensures)
+    (λ c κs. fits (start2 c.before.before.before.before) 2 c.if-n-eq2.true)
+    (λ c. c.x-then-n-eq2-1.given)
+    (λ c. c.p-then-n-eq2-1.given)
+    (λ c. c.predicted-then-n-eq2-1.given)
+    (λ c. c.temp-then-n-eq2-1.given)
+    (λ c. left (start2 c.before.before.before.before.before.before.before.before.before.before.before.before.before) 2 c.if-n-eq2.true c.predict_two.ensures)
+    (λ c κs. fits (start3 c.before.before.before.before) 4 c.if-n-eq4.true)
+    (λ c. c.x-then-n-eq4-1.given)
+    (λ c. c.p-then-n-eq4-1.given)
+    (λ c. c.predicted-then-n-eq4-1.given)
+    (λ c. c.temp-then-n-eq4-1.given)
+    (λ c. left (start3 c.before.before.before.before.before.before.before.before.before.before.before.before.before) 4 c.if-n-eq4.true c.predict_four.ensures)
+    (λ c κs. let s = start4 c.before.before.before.before in (c.if-n-ge13.true, s.requires.7, s.requires.1, s.requires.2, s.requires.3, s.requires.4, s.requires.5, s.requires.6))
+    (λ c. c.x-then-n-ge13-1.given)
+    (λ c. c.p-then-n-ge13-1.given)
+    (λ c. c.predicted-then-n-ge13-1.given)
+    (λ c. c.temp-then-n-ge13-1.given)
+    (λ c. c.predict_wide.ensures)
     (λ c κs. let s = start5 c.before.before in (s.requires.0, s.requires.1, s.requires.2, s.requires.5))
     (λ c κs. let s = start5 c.before.before.before.before.before.before.before.before.before in (s.requires.0, s.requires.2, s.requires.3, s.requires.4, s.requires.6, s.requires.7))
-    (λ c. c.before.before.before.before.before.before.before.before.before.before.x5.given)
-    (λ c. c.before.before.before.p5.given)
-    (λ c. c.before.before.before.before.before.before.before.before.predicted5.given)
-    (λ c. c.before.temp5.given)
-    (λ c. let P = c.before.before.before.before.predict-p-cells.ensures in let x = c.before.before.before.before.before.before.before.before.before.before.before.predict-x-cells.ensures in (x.0, (x.1, (P.0, P.1)))))
+    (λ c. c.x-2-1.given)
+    (λ c. c.p-2-1.given)
+    (λ c. c.predicted-2-1.given)
+    (λ c. c.temp-2-1.given)
+    (λ c. let P = c.predict_p_cells.ensures in let x = c.predict_x_cells.ensures in (x.0, (x.1, (P.0, P.1)))))

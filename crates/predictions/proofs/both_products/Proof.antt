@@ -5,30 +5,30 @@ use borrow.Author.Rules.{rules}
 use Rattle.predictions.proofs.both_products.Statement.{statement}
 use Rattle.predictions.proofs.both_products.Tie as tie
 
-by-small-requires-2 : tie.Need-by-small-requires-2
-by-small-requires-2 c κs = let p = c.before.before.before.before.before.before.before.before.requires in (omega arith, c.before.before.if3.true, p.2, p.3, p.4)
+by_small-requires-then-n-le8 : tie.Need-by_small-requires-then-n-le8
+by_small-requires-then-n-le8 c κs = let p = c.requires in (omega arith, c.if-n-le8.true, p.2, p.3, p.4)
 
-by-turned-requires : tie.Need-by-turned-requires
-by-turned-requires c κs =
-    let p = c.before.before.before.before.before.before.before.before.before.requires in
+by_turned-requires : tie.Need-by_turned-requires
+by_turned-requires c κs =
+    let p = c.requires in
     (omega arith, p.1, p.2, p.3, p.4, mul-le-mul p.1 p.1)
 
-returns : tie.Need-returns
-returns c = let second = c.before.before in (second.before.before.before.before.before.mult-cells.ensures, second.transb-cells.ensures)
+returns-then-n-lt4 : tie.Need-returns-then-n-lt4
+returns-then-n-lt4 c = (c.mult_cells.ensures, c.transb_cells.ensures)
 
-pub both-products-spec : {M : Type 1} → statement M
-both-products-spec =
+pub both_products_spec : {M : Type 1} → statement M
+both_products_spec =
     tie.close
     (tie.spec
     (λ c κs. search rules)
     (λ c κs. search rules)
     (λ c κs. search rules)
-    by-small-requires-2
+    by_small-requires-then-n-le8
     (λ c. search rules)
-    by-turned-requires
+    by_turned-requires
     (λ c. search rules)
     (λ c. search rules)
-    returns
+    returns-then-n-lt4
     (λ c. search rules)
     (λ c. search rules)
     (λ c. search rules)

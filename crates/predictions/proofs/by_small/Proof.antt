@@ -5,10 +5,10 @@ use borrow.Author.Rules.{rules}
 use Rattle.predictions.proofs.by_small.Statement.{statement}
 use Rattle.predictions.proofs.by_small.Tie as tie
 
-by-turned-requires : tie.Need-by-turned-requires
-by-turned-requires c κs =
-    let p = c.before.before.before.before.before.before.requires in
+by_turned-requires : tie.Need-by_turned-requires
+by_turned-requires c κs =
+    let p = c.requires in
     (p.0, omega arith, p.2, p.3, p.4, mul-le-mul p.1 p.1)
 
-pub by-small-spec : {M : Type 1} → statement M
-by-small-spec = tie.close (tie.spec (λ c. search rules) by-turned-requires (λ c. search rules) (λ c. search rules) (λ c. search rules))
+pub by_small_spec : {M : Type 1} → statement M
+by_small_spec = tie.close (tie.spec (λ c. search rules) by_turned-requires (λ c. search rules) (λ c. search rules) (λ c. search rules))

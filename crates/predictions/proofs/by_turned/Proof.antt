@@ -7,16 +7,12 @@ use Rattle.predictions.proofs.by_turned.Tie as tie
 
 returns : tie.Need-returns
 returns c =
-    let second = c.before.before in
-    let first = second.before.before.before.before.before.before in
-    let turn = first.before.before.before.before.before in
-    let s = turn.before.before.before.before.before.before in
-    let m = s.args in
-    let t = turn.turn.ensures in
-    (first.wide-cells.ensures, (by_transpose binary32 m.n m.n m.n first.wide-cells.new.1.1.1.1.1.0 m.a.now m.p.now _ _ _ t second.wide-cells2.ensures s.requires.5, t))
+    let m = c.args in
+    let t = c.turn.ensures in
+    (c.wide_cells.ensures, (by_transpose binary32 m.n m.n m.n c.wide_cells.new.c m.a.now m.p.now _ _ _ t c.wide_cells-2.ensures c.requires.5, t))
 
-pub by-turned-spec : {M : Type 1} → statement M
-by-turned-spec =
+pub by_turned_spec : {M : Type 1} → statement M
+by_turned_spec =
     tie.close
     (tie.spec
     (λ c κs. search rules)

@@ -4,26 +4,23 @@ use borrow.Author.Rules.{rules}
 use Rattle.predictions.proofs.predict_x_cells.Statement.{statement}
 use Rattle.predictions.proofs.predict_x_cells.Tie as tie
 
-rowvector-cells-requires : tie.Need-rowvector-cells-requires
-rowvector-cells-requires c κs = search rules
+rowvector_cells-requires : tie.Need-rowvector_cells-requires
+rowvector_cells-requires c κs = search rules
 
-copy-cells-requires : tie.Need-copy-cells-requires
-copy-cells-requires c κs = search rules
+copy_cells-requires : tie.Need-copy_cells-requires
+copy_cells-requires c κs = search rules
 
-same_length : tie.Need-same-length
-same_length c = c.before.x.given
+shape_of-x : tie.Need-shape_of-x
+shape_of-x c = c.x-1.given
 
-same-length-2 : tie.Need-same-length-2
-same-length-2 c = c.before.before.before.before.before.before.predicted.given
+shape_of-predicted : tie.Need-shape_of-predicted
+shape_of-predicted c = c.predicted-1.given
 
 returns : tie.Need-returns
 returns c =
-    let copy = c.before.before in
-    let row = copy.before.before.before.before.before in
-    let s = row.before.before.before.before.before.before in
-    (copied s.args.n _ s.args.x.now s.args.predicted.now _ _ s.requires.3 row.rowvector-cells.ensures copy.copy-cells.ensures, row.rowvector-cells.ensures)
+    (copied c.args.n _ c.args.x.now c.args.predicted.now _ _ c.requires.3 c.rowvector_cells.ensures c.copy_cells.ensures, c.rowvector_cells.ensures)
 
-pub predict-x-cells-spec : {M : Type 1} → statement M
-predict-x-cells-spec =
+pub predict_x_cells_spec : {M : Type 1} → statement M
+predict_x_cells_spec =
     tie.close
-    (tie.spec rowvector-cells-requires copy-cells-requires same_length same-length-2 returns)
+    (tie.spec rowvector_cells-requires copy_cells-requires shape_of-x shape_of-predicted returns)

@@ -7,6 +7,7 @@ use lib.Ieee.{binary32}
 use Rattle.answers.proofs.Shorter.{few}
 use Rattle.filters.proofs.Steps.{stored, sum_refused, difference_refused}
 use Rattle.renewals.proofs.renew_cells.Statement.{statement}
+use Rattle.renewals.proofs.renew_cells.Lts.{else-sums_finite-via-then-sums_finite+else-differences_finite, else-sums_finite-via-else-sums_finite}
 use Rattle.renewals.proofs.renew_cells.Tie as tie
 
 slice_bounds-rowvector_cells-end : tie.Need-slice_bounds-rowvector_cells-end
@@ -69,10 +70,10 @@ returns c =
     let a = c.args in
     let khp = c.mult_cells.ensures in
     let told = c.sums_finite.ensures in
-    ⊎_elim
-    (λ w. (difference_refused binary32 a.n a.m a.x.now a.p.now a.y.now a.k.now a.temp_hp.now a.temp_khp.now _ _ _ (omega arith) c.requires.7 c.rowvector_cells.ensures khp told w.3.ensures w.0.taken w.4.left, (refl, (khp, refl))))
-    (λ w. (sum_refused binary32 a.n a.m a.x.now a.p.now a.y.now a.k.now a.temp_hp.now a.temp_khp.now _ _ _ (omega arith) c.requires.7 c.rowvector_cells.ensures khp told w.left, (refl, (khp, refl))))
-    c.else-sums_finite.branch
+    elim c.else-sums_finite.branch [
+      else-sums_finite-via-then-sums_finite+else-differences_finite w ↦ (difference_refused binary32 a.n a.m a.x.now a.p.now a.y.now a.k.now a.temp_hp.now a.temp_khp.now _ _ _ (omega arith) c.requires.7 c.rowvector_cells.ensures khp told w.differences_finite.ensures w.if-sums_finite.true w.if-differences_finite.false, (refl, (khp, refl)))
+      | else-sums_finite-via-else-sums_finite w ↦ (sum_refused binary32 a.n a.m a.x.now a.p.now a.y.now a.k.now a.temp_hp.now a.temp_khp.now _ _ _ (omega arith) c.requires.7 c.rowvector_cells.ensures khp told w.if-sums_finite.false, (refl, (khp, refl)))
+    ]
 
 pub renew_cells_spec : {M : Type 1} → statement M
 renew_cells_spec =

@@ -34,7 +34,7 @@ overflow_sub-c : tie.Need-overflow_sub-c invariant-loop decreases-loop invariant
 overflow_sub-c c = four_there c
 
 four_left-requires : tie.Need-four_left-requires invariant-loop decreases-loop invariant-loop2 decreases-loop2
-four_left-requires c κs = omega (arith, four_there c.before)
+four_left-requires c κs = omega (arith, four_there c)
 
 scaled-v-requires : tie.Need-scaled-v-requires invariant-loop decreases-loop invariant-loop2 decreases-loop2
 scaled-v-requires c κs = tt
@@ -46,7 +46,7 @@ overflow_add-i-in-loop-c : tie.Need-overflow_add-i-in-loop-c invariant-loop decr
 overflow_add-i-in-loop-c c = let m = c.args in omega (arith, row_in m.n m.n m.i (omega arith))
 
 put-requires : tie.Need-put-requires invariant-loop decreases-loop invariant-loop2 decreases-loop2
-put-requires c κs = let m = c.args in omega (arith, four_there c.before.before.before.before, row_in m.n m.n m.i (omega arith))
+put-requires c κs = let m = c.args in omega (arith, four_there c.before.before.before, row_in m.n m.n m.i (omega arith))
 
 loop-c-smaller : tie.Need-loop-c-smaller invariant-loop decreases-loop invariant-loop2 decreases-loop2
 loop-c-smaller c = omega arith
@@ -54,7 +54,7 @@ loop-c-smaller c = omega arith
 loop-c-preserved : tie.Need-loop-c-preserved invariant-loop decreases-loop invariant-loop2 decreases-loop2
 loop-c-preserved c =
     let w = c.loop-c in
-    four-filled w.invariant (omega arith) (omega arith) (omega (arith, four_there c.before.before.before)) c.four_left.ensures c.scaled-v.ensures c.put.ensures
+    four-filled w.invariant (omega arith) (omega arith) (omega (arith, four_there c.before.before.before.before.before.before)) c.four_left.ensures c.scaled-v.ensures c.put.ensures
 
 loop-c-2-init : tie.Need-loop-c-2-init invariant-loop decreases-loop invariant-loop2 decreases-loop2
 loop-c-2-init c = onward

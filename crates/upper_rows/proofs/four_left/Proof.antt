@@ -41,8 +41,8 @@ overflow_add-k c = omega (arith, in_t c)
 offset_bounds-t-k : tie.Need-offset_bounds-t-k invariant-loop decreases-loop
 offset_bounds-t-k c = omega (arith, in_t c)
 
-shared-slice-read-smaller : tie.Need-shared-slice-read-smaller invariant-loop decreases-loop
-shared-slice-read-smaller c = omega (arith, in_t c.before)
+bounds-t-k : tie.Need-bounds-t-k invariant-loop decreases-loop
+bounds-t-k c = omega (arith, in_t c.before)
 
 overflow_mul-k-in-loop-k : tie.Need-overflow_mul-k-in-loop-k invariant-loop decreases-loop
 overflow_mul-k-in-loop-k c = omega (arith, in_t c.before)
@@ -78,7 +78,7 @@ four_left_spec =
     overflow_mul-k
     overflow_add-k
     offset_bounds-t-k
-    shared-slice-read-smaller
+    bounds-t-k
     overflow_mul-k-in-loop-k
     overflow_add-k-in-loop-k
     less-v-requires

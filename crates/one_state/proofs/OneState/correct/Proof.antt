@@ -9,6 +9,7 @@ use Rattle.one_state.specs.declared.OneState.{OneState}
 use Rattle.one_state.specs.declared.Corrected.TheVariants.{Refused}
 use Rattle.one_state.proofs.Cases.{refuses, refused, goes_through, comes_back_x, comes_back_p}
 use Rattle.one_state.proofs.OneState.correct.Statement.{statement}
+use Rattle.one_state.proofs.OneState.correct.Lts.{else-is_finite-via-then-is_finite+else-is_finite-2, else-is_finite-via-else-is_finite}
 use Rattle.one_state.proofs.OneState.correct.Tie as tie
 
 pivot_of-requires : tie.Need-pivot_of-requires
@@ -44,10 +45,10 @@ returns-else-is_finite c =
     let m = c.args in
     let step = sym c.pivot_of.ensures ∙ c.in-Accepted.is in
     ap (λ (s : OneState). Refused s NotFinite) c.blinded.ensures
-    ∙ ⊎_elim
-    (λ w. comes_back_p m.self m.z _ _ step _ _ c.is_finite.ensures w.1.ensures w.0.taken w.2.left)
-    (λ w. comes_back_x m.self m.z _ _ step _ c.is_finite.ensures w.left)
-    c.else-is_finite.branch
+    ∙ elim c.else-is_finite.branch [
+      else-is_finite-via-then-is_finite+else-is_finite-2 w ↦ comes_back_p m.self m.z _ _ step _ _ c.is_finite.ensures w.is_finite-then-is_finite.ensures w.if-is_finite.true w.if-is_finite-2.false
+      | else-is_finite-via-else-is_finite w ↦ comes_back_x m.self m.z _ _ step _ c.is_finite.ensures w.if-is_finite.false
+    ]
 
 returns-in-Refused : tie.Need-returns-in-Refused
 unfolding of_bits

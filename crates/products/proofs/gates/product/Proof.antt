@@ -7,10 +7,10 @@ use Rattle.products.proofs.gates.product.Tie as tie
 
 returns : tie.Need-returns
 unfolding product_answer
-returns c = asked _ (asked _ (asked _ (asked _ (asked _ c.before.before.before.before.before.then-size.ensures c.before.before.before.before.then-size2.ensures) c.before.before.before.then-size3.ensures) c.before.before.then-matrix.ensures) c.before.then-matrix2.ensures) c.then-matrix3.ensures
+returns c = asked _ (asked _ (asked _ (asked _ (asked _ c.then_size-rows_taken.ensures c.then_size-inner_taken.ensures) c.then_size-sizes.ensures) c.then_matrix-left.ensures) c.then_matrix-right.ensures) c.then_matrix.ensures
 
-pub product-spec : {M : Type 1} → statement M
-product-spec =
+pub product_spec : {M : Type 1} → statement M
+product_spec =
     tie.close
     (tie.spec
     (λ c κs. search rules)

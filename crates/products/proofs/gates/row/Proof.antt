@@ -7,10 +7,10 @@ use Rattle.products.proofs.gates.row.Tie as tie
 
 returns : tie.Need-returns
 unfolding row_answer
-returns c = asked _ (asked _ (asked _ (asked _ c.before.before.before.before.then-size.ensures c.before.before.before.then-size2.ensures) c.before.before.then-matrix.ensures) c.before.then-buffer.ensures) c.then-buffer2.ensures
+returns c = asked _ (asked _ (asked _ (asked _ c.then_size-rows_taken.ensures c.then_size-sizes.ensures) c.then_matrix-left.ensures) c.then_buffer.ensures) c.then_buffer-2.ensures
 
-pub row-spec : {M : Type 1} → statement M
-row-spec =
+pub row_spec : {M : Type 1} → statement M
+row_spec =
     tie.close
     (tie.spec
     (λ c κs. search rules)

@@ -5,22 +5,21 @@ use Rattle.entries.proofs.Shapes.{row_fits}
 use Rattle.products.proofs.rowvector.mult_rowvector.Statement.{statement}
 use Rattle.products.proofs.rowvector.mult_rowvector.Tie as tie
 
-returns : tie.Need-returns
-returns c =
-    let t = c.before.before.before.before in
-    let e = t.before.before.row.ensures in
-    record { answer = e; after = written_by _ e t.before.is-done.ensures t.if1.true c.before.before.rowvector-cells.ensures }
+returns-then-is_done : tie.Need-returns-then-is_done
+returns-then-is_done c =
+    let e = c.row-v.ensures in
+    record { answer = e; after = written_by _ e c.is_done.ensures c.if-is_done.true c.rowvector_cells.ensures }
 
-returns-2 : tie.Need-returns-2
-returns-2 c = let e = c.before.before.row.ensures in record { answer = e; after = kept_by _ e c.before.is-done.ensures c.if1.false }
+returns-else-is_done : tie.Need-returns-else-is_done
+returns-else-is_done c = let e = c.row-v.ensures in record { answer = e; after = kept_by _ e c.is_done.ensures c.if-is_done.false }
 
-pub mult-rowvector-spec : {M : Type 1} → statement M
-mult-rowvector-spec =
+pub mult_rowvector_spec : {M : Type 1} → statement M
+mult_rowvector_spec =
     tie.close
     (tie.spec
     (λ c κs. search rules)
     (λ c κs. search rules)
-    (λ c κs. row_fits _ _ _ _ _ c.before.before.before.row.ensures c.before.before.is-done.ensures c.before.if1.true)
+    (λ c κs. row_fits _ _ _ _ _ c.row-v.ensures c.is_done.ensures c.if-is_done.true)
     (λ c. search rules)
-    returns
-    returns-2)
+    returns-then-is_done
+    returns-else-is_done)

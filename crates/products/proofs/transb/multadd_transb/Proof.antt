@@ -6,22 +6,21 @@ use Rattle.entries.proofs.Shapes.{transposed_asked, transposed_fits}
 use Rattle.products.proofs.transb.multadd_transb.Statement.{statement}
 use Rattle.products.proofs.transb.multadd_transb.Tie as tie
 
-returns : tie.Need-returns
-returns c =
-    let t = c.before.before.before.before in
-    let e = t.before.before.product.ensures ∙ transposed_asked _ _ _ _ _ _ in
-    record { answer = e; after = written_by _ e t.before.is-done.ensures t.if1.true c.before.before.transb-add-cells.ensures }
+returns-then-is_done : tie.Need-returns-then-is_done
+returns-then-is_done c =
+    let e = c.product-v.ensures ∙ transposed_asked _ _ _ _ _ _ in
+    record { answer = e; after = written_by _ e c.is_done.ensures c.if-is_done.true c.transb_add_cells.ensures }
 
-returns-2 : tie.Need-returns-2
-returns-2 c = let e = c.before.before.product.ensures ∙ transposed_asked _ _ _ _ _ _ in record { answer = e; after = kept_by _ e c.before.is-done.ensures c.if1.false }
+returns-else-is_done : tie.Need-returns-else-is_done
+returns-else-is_done c = let e = c.product-v.ensures ∙ transposed_asked _ _ _ _ _ _ in record { answer = e; after = kept_by _ e c.is_done.ensures c.if-is_done.false }
 
-pub multadd-transb-spec : {M : Type 1} → statement M
-multadd-transb-spec =
+pub multadd_transb_spec : {M : Type 1} → statement M
+multadd_transb_spec =
     tie.close
     (tie.spec
     (λ c κs. search rules)
     (λ c κs. search rules)
-    (λ c κs. let h = transposed_fits _ _ _ _ _ _ (c.before.before.before.product.ensures ∙ transposed_asked _ _ _ _ _ _) c.before.before.is-done.ensures c.before.if1.true in (h.0, h.1, h.2))
+    (λ c κs. let h = transposed_fits _ _ _ _ _ _ (c.product-v.ensures ∙ transposed_asked _ _ _ _ _ _) c.is_done.ensures c.if-is_done.true in (h.0, h.1, h.2))
     (λ c. search rules)
-    returns
-    returns-2)
+    returns-then-is_done
+    returns-else-is_done)
