@@ -1,3 +1,2 @@
--- Laws behind the contracts: the ways out of a correction by value, and what a refused one leaves (Yarns); what lies in a record's cell (Stored).
+-- Laws behind the contracts: the ways out of a correction by value, and what a refused one leaves (Yarns).
 pub mod Yarns
-mod Stored

@@ -35,7 +35,7 @@ stored c = innovated (projected c)
 abbrev lent : tie.After-put → Buffers
 lent c =
     let a = c.args in
-    buffers a.x.now a.p.now a.h.now [] a.r.now c.put_two.new.c a.s.now a.k.now a.temp_s_inv.now a.temp-hp.now a.temp-pht.now a.temp-khp.now
+    buffers a.x.now a.p.now a.h.now [] a.r.now c.put_two.new.c a.s.now a.k.now a.temp_s_inv.now a.temp_hp.now a.temp_pht.now a.temp_khp.now
 
 -- what is read, seen and decomposed
 begun_is : (c : tie.After-put) → Begun (lent c) c.args.z.now c.read_operands-b.result c.observe-seen.result c.decompose-root.result
@@ -75,7 +75,7 @@ correct_four_spec =
     (λ c κs. c.requires.0.y_holds)
     (λ c κs. c.requires.0.hp_holds)
     (λ c κs. tt)
-    (λ c κs. (start (read (innovated c.before.before.before.before))).requires.0.s_holds)
+    (λ c κs. (start (read (innovated c.before.before.before.before.before.before))).requires.0.s_holds)
     (λ c. refl)
     (λ c. refl)
     (λ c. omega (arith, c.put_two.auto))
