@@ -10,26 +10,10 @@ use Rattle.four_by_two.proofs.correct_four.Tie as tie
 
 -- ---- the way back from each step to the one before it
 
-abbrev start : tie.After-read_operands-b → tie.Start
-start c = c.before.before.before.before.before.before.before.before.before.before.before.before.before
-
-abbrev read : tie.After-put_two → tie.After-read_operands-b
-read c = c.before.before.before
-
-abbrev innovated : tie.After-put_eight → tie.After-put_two
-innovated c = c.before.before.before.before.before
-
-abbrev projected : tie.After-put → tie.After-put_eight
-projected c = c.before.before.before.before.before.before.before
-
 abbrev rooted : tie.After-finish → tie.After-put
 rooted c = c.before.before.before.before.before.before.before.before.before.before.before
 
 -- ---- before the pivots' test
-
--- the way from there to the y that is stored, and to what is lent
-abbrev stored : tie.After-put → tie.After-put_two
-stored c = innovated (projected c)
 
 -- the buffers as lent, with the y that is stored
 abbrev lent : tie.After-put → Buffers
@@ -75,7 +59,7 @@ correct_four_spec =
     (λ c κs. c.requires.0.y_holds)
     (λ c κs. c.requires.0.hp_holds)
     (λ c κs. tt)
-    (λ c κs. (start (read (innovated c.before.before.before.before.before.before))).requires.0.s_holds)
+    (λ c κs. c.requires.0.s_holds)
     (λ c. refl)
     (λ c. refl)
     (λ c. omega (arith, c.put_two.auto))
