@@ -35,22 +35,22 @@ start6 c = start5 c.before.before.before.before.before
 -- ---- room there
 
 room1 : (c : tie.After-put_count_line-at_states) → c.put_count_line-at_states.result + left1 8 c.args.n c.args.m ≤ length c.put_count_line-at_states.new.0
-room1 c = room_behind _ _ (left1 8 c.args.n c.args.m) _ (room_first 8 c.args.n c.args.m _ c.requires.8) _ _ c.put_count_line-at_states.ensures.0 c.put_count_line-at_states.auto.0
+room1 c =room_behind _ _ (left1 8 c.args.n c.args.m) _ (room_first 8 c.args.n c.args.m _ c.pre.8) _ _ c.put_count_line-at_states.ensures.0 c.put_count_line-at_states.auto.0
 
 room2 : (c : tie.After-put_count_line-at_observations) → c.put_count_line-at_observations.result + left2 8 c.args.n c.args.m ≤ length c.put_count_line-at_observations.new.0
-room2 c = room_behind _ _ (left2 8 c.args.n c.args.m) _ (room1 c.before.before.before.before.before) _ _ c.put_count_line-at_observations.ensures.0 c.put_count_line-at_observations.auto.0
+room2 c =room_behind _ _ (left2 8 c.args.n c.args.m) _ (room1 c.before.before.before.before.before) _ _ c.put_count_line-at_observations.ensures.0 c.put_count_line-at_observations.auto.0
 
 room3 : (c : tie.After-put_count_line-at_a) → c.put_count_line-at_a.result + left3 8 c.args.n c.args.m ≤ length c.put_count_line-at_a.new.0
-room3 c = room_behind _ _ (left3 8 c.args.n c.args.m) _ (room2 c.before.before.before.before.before) _ _ c.put_count_line-at_a.ensures.0 c.put_count_line-at_a.auto.0
+room3 c =room_behind _ _ (left3 8 c.args.n c.args.m) _ (room2 c.before.before.before.before.before) _ _ c.put_count_line-at_a.ensures.0 c.put_count_line-at_a.auto.0
 
 room4 : (c : tie.After-put_entries_line-at_q) → c.put_entries_line-at_q.result + left4 8 c.args.n c.args.m ≤ length c.put_entries_line-at_q.new.0
-room4 c = room_behind _ _ (left4 8 c.args.n c.args.m) _ (room3 c.before.before.before.before.before) _ _ c.put_entries_line-at_q.ensures.0 c.put_entries_line-at_q.auto.0
+room4 c =room_behind _ _ (left4 8 c.args.n c.args.m) _ (room3 c.before.before.before.before.before) _ _ c.put_entries_line-at_q.ensures.0 c.put_entries_line-at_q.auto.0
 
 room5 : (c : tie.After-put_entries_line-at_h) → c.put_entries_line-at_h.result + left5 8 c.args.n c.args.m ≤ length c.put_entries_line-at_h.new.0
-room5 c = room_behind _ _ (left5 8 c.args.n c.args.m) _ (room4 c.before.before.before.before.before) _ _ c.put_entries_line-at_h.ensures.0 c.put_entries_line-at_h.auto.0
+room5 c =room_behind _ _ (left5 8 c.args.n c.args.m) _ (room4 c.before.before.before.before.before) _ _ c.put_entries_line-at_h.ensures.0 c.put_entries_line-at_h.auto.0
 
 room6 : (c : tie.After-put_entries_line-at_r) → c.put_entries_line-at_r.result + left6 8 c.args.n c.args.m ≤ length c.put_entries_line-at_r.new.0
-room6 c = room_behind _ _ (left6 8 c.args.n c.args.m) _ (room5 c.before.before.before.before.before) _ _ c.put_entries_line-at_r.ensures.0 c.put_entries_line-at_r.auto.0
+room6 c =room_behind _ _ (left6 8 c.args.n c.args.m) _ (room5 c.before.before.before.before.before) _ _ c.put_entries_line-at_r.ensures.0 c.put_entries_line-at_r.auto.0
 
 -- ---- how many entries the matrices have
 few : (e : tie.Start) → (1 ≤ e.args.n * e.args.n) × (e.args.n * e.args.n ≤ 256) × (1 ≤ e.args.m * e.args.n) × (e.args.m * e.args.n ≤ 256) × (1 ≤ e.args.m * e.args.m) × (e.args.m * e.args.m ≤ 256)
@@ -62,19 +62,19 @@ slice-aggregate-put-count-line : tie.Need-slice-aggregate-put-count-line
 slice-aggregate-put-count-line c = search rules
 
 put_count_line-at_states-requires : tie.Need-put_count_line-at_states-requires
-put_count_line-at_states-requires c κs = (lit< tt, room_here _ _ (left1 8 c.args.n c.args.m) _ (room_first 8 c.args.n c.args.m _ c.requires.8))
+put_count_line-at_states-requires c κs =(lit< tt, room_here _ _ (left1 8 c.args.n c.args.m) _ (room_first 8 c.args.n c.args.m _ c.requires.8))
 
 slice-aggregate-put-count-line-2 : tie.Need-slice-aggregate-put-count-line-2
 slice-aggregate-put-count-line-2 c = search rules
 
 put_count_line-at_observations-requires : tie.Need-put_count_line-at_observations-requires
-put_count_line-at_observations-requires c κs = (omega (arith, c.pre), room_here _ _ (left2 8 c.args.n c.args.m) _ (room1 c.before.before.before.before))
+put_count_line-at_observations-requires c κs =(omega (arith, c.pre), room_here _ _ (left2 8 c.args.n c.args.m) _ (room1 c.before.before.before.before))
 
 slice-aggregate-put-count-line-3 : tie.Need-slice-aggregate-put-count-line-3
 slice-aggregate-put-count-line-3 c = search rules
 
 put_count_line-at_a-requires : tie.Need-put_count_line-at_a-requires
-put_count_line-at_a-requires c κs = (omega (arith, c.pre), room_here _ _ (left3 8 c.args.n c.args.m) _ (room2 c.before.before.before.before))
+put_count_line-at_a-requires c κs =(omega (arith, c.pre), room_here _ _ (left3 8 c.args.n c.args.m) _ (room2 c.before.before.before.before))
 
 slice-aggregate-put-entries-line : tie.Need-slice-aggregate-put-entries-line
 slice-aggregate-put-entries-line c = search rules
