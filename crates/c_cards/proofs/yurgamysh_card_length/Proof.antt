@@ -4,29 +4,29 @@ use borrow.Author.Rules.{rules}
 use Rattle.c_cards.proofs.yurgamysh_card_length.Statement.{statement}
 use Rattle.c_cards.proofs.yurgamysh_card_length.Tie as tie
 
-length-of-requires : tie.Need-length-of-requires
-length-of-requires c κs = search rules
+length_of-requires : tie.Need-length_of-requires
+length_of-requires c κs = search rules
 
-enum-known-l : tie.Need-enum-known-l
-enum-known-l c = search rules
+enum_known-l : tie.Need-enum_known-l
+enum_known-l c = search rules
 
-enum-known-v : tie.Need-enum-known-v
-enum-known-v c = search rules
+enum_known-v : tie.Need-enum_known-v
+enum_known-v c = search rules
 
-code-of-requires : tie.Need-code-of-requires
-code-of-requires c κs = search rules
+code_of-requires : tie.Need-code_of-requires
+code_of-requires c κs = search rules
 
-returns : tie.Need-returns
-returns c =
-    let a = c.before.before.before.before.args in
-    measured-told 8 a.states a.observations a.length.now c.before.before.before.length-of.ensures c.before.l.given.1
+returns-in-Length : tie.Need-returns-in-Length
+returns-in-Length c =
+    let a = c.args in
+    measured-told 8 a.states a.observations a.length.now c.length_of.ensures c.in-Length.is
 
-returns-2 : tie.Need-returns-2
-returns-2 c =
-    let a = c.before.before.before.before.before.args in
-    refused_told 8 a.states a.observations a.length.now c.before.before.before.before.length-of.ensures c.before.before.v.given.1 c.code_of.ensures
+returns-in-Refused : tie.Need-returns-in-Refused
+returns-in-Refused c =
+    let a = c.args in
+    refused_told 8 a.states a.observations a.length.now c.length_of.ensures c.in-Refused.is c.code_of.ensures
 
-pub yurgamysh-card-length-spec : {M : Type 1} → statement M
-yurgamysh-card-length-spec =
+pub yurgamysh_card_length_spec : {M : Type 1} → statement M
+yurgamysh_card_length_spec =
     tie.close
-    (tie.spec length-of-requires enum-known-l enum-known-v code-of-requires returns returns-2)
+    (tie.spec length_of-requires enum_known-l enum_known-v code_of-requires returns-in-Length returns-in-Refused)

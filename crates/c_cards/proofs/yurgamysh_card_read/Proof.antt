@@ -8,64 +8,64 @@ use Rattle.c_cards.proofs.yurgamysh_card_read.Tie as tie
 read-requires : tie.Need-read-requires
 read-requires c κs = search rules
 
-enum-known-n : tie.Need-enum-known-n
-enum-known-n c = search rules
+enum_known-n : tie.Need-enum_known-n
+enum_known-n c = search rules
 
-enum-known-v : tie.Need-enum-known-v
-enum-known-v c = search rules
+enum_known-v : tie.Need-enum_known-v
+enum_known-v c = search rules
 
-code-of-requires : tie.Need-code-of-requires
-code-of-requires c κs = search rules
+code_of-requires : tie.Need-code_of-requires
+code_of-requires c κs = search rules
 
-same_length : tie.Need-same-length
-same_length c = search rules
+shape_of-a-in-Sizes : tie.Need-shape_of-a-in-Sizes
+shape_of-a-in-Sizes c = search rules
 
-same-length-2 : tie.Need-same-length-2
-same-length-2 c = search rules
+shape_of-q-in-Sizes : tie.Need-shape_of-q-in-Sizes
+shape_of-q-in-Sizes c = search rules
 
-same-length-3 : tie.Need-same-length-3
-same-length-3 c = search rules
+shape_of-h-in-Sizes : tie.Need-shape_of-h-in-Sizes
+shape_of-h-in-Sizes c = search rules
 
-same-length-4 : tie.Need-same-length-4
-same-length-4 c = search rules
+shape_of-r-in-Sizes : tie.Need-shape_of-r-in-Sizes
+shape_of-r-in-Sizes c = search rules
 
-returns : tie.Need-returns
-returns c =
-    let a = c.before.before.before.before.before.before.before.before.before.before.before.before.before.before.before.before.before.before.before.before.before.args in
-    sized binary32 8 a.card.now a.a.now a.q.now a.h.now a.r.now a.states.now a.observations.now _ _ _ _ c.before.before.before.before.before.before.before.before.before.before.before.read.ensures c.before.n.given.1
+returns-in-Sizes : tie.Need-returns-in-Sizes
+returns-in-Sizes c =
+    let a = c.args in
+    sized binary32 8 a.card.now a.a.now a.q.now a.h.now a.r.now a.states.now a.observations.now _ _ _ _ c.read.ensures c.in-Sizes.is
 
-same-length-5 : tie.Need-same-length-5
-same-length-5 c = search rules
+shape_of-a-in-Refused : tie.Need-shape_of-a-in-Refused
+shape_of-a-in-Refused c = search rules
 
-same-length-6 : tie.Need-same-length-6
-same-length-6 c = search rules
+shape_of-q-in-Refused : tie.Need-shape_of-q-in-Refused
+shape_of-q-in-Refused c = search rules
 
-same-length-7 : tie.Need-same-length-7
-same-length-7 c = search rules
+shape_of-h-in-Refused : tie.Need-shape_of-h-in-Refused
+shape_of-h-in-Refused c = search rules
 
-same-length-8 : tie.Need-same-length-8
-same-length-8 c = search rules
+shape_of-r-in-Refused : tie.Need-shape_of-r-in-Refused
+shape_of-r-in-Refused c = search rules
 
-returns-2 : tie.Need-returns-2
-returns-2 c =
-    let a = c.before.before.before.before.before.before.before.before.before.before.before.before.before.before.before.before.before.before.before.before.before.before.args in
-    refused binary32 8 a.card.now a.a.now a.q.now a.h.now a.r.now a.states.now a.observations.now _ _ _ _ c.before.before.before.before.before.before.before.before.before.before.before.before.read.ensures c.before.before.v.given.1 c.code_of.ensures
+returns-in-Refused : tie.Need-returns-in-Refused
+returns-in-Refused c =
+    let a = c.args in
+    refused binary32 8 a.card.now a.a.now a.q.now a.h.now a.r.now a.states.now a.observations.now _ _ _ _ c.read.ensures c.in-Refused.is c.code_of.ensures
 
-pub yurgamysh-card-read-spec : {M : Type 1} → statement M
-yurgamysh-card-read-spec =
+pub yurgamysh_card_read_spec : {M : Type 1} → statement M
+yurgamysh_card_read_spec =
     tie.close
     (tie.spec
     read-requires
-    enum-known-n
-    enum-known-v
-    code-of-requires
-    same_length
-    same-length-2
-    same-length-3
-    same-length-4
-    returns
-    same-length-5
-    same-length-6
-    same-length-7
-    same-length-8
-    returns-2)
+    enum_known-n
+    enum_known-v
+    code_of-requires
+    shape_of-a-in-Sizes
+    shape_of-q-in-Sizes
+    shape_of-h-in-Sizes
+    shape_of-r-in-Sizes
+    returns-in-Sizes
+    shape_of-a-in-Refused
+    shape_of-q-in-Refused
+    shape_of-h-in-Refused
+    shape_of-r-in-Refused
+    returns-in-Refused)

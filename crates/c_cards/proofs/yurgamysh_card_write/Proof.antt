@@ -8,40 +8,40 @@ use Rattle.c_cards.proofs.yurgamysh_card_write.Tie as tie
 write-requires : tie.Need-write-requires
 write-requires c κs = search rules
 
-enum-known-l : tie.Need-enum-known-l
-enum-known-l c = search rules
+enum_known-l : tie.Need-enum_known-l
+enum_known-l c = search rules
 
-enum-known-v : tie.Need-enum-known-v
-enum-known-v c = search rules
+enum_known-v : tie.Need-enum_known-v
+enum_known-v c = search rules
 
-code-of-requires : tie.Need-code-of-requires
-code-of-requires c κs = search rules
+code_of-requires : tie.Need-code_of-requires
+code_of-requires c κs = search rules
 
-same_length : tie.Need-same-length
-same_length c = search rules
+shape_of-card-in-Length : tie.Need-shape_of-card-in-Length
+shape_of-card-in-Length c = search rules
 
-returns : tie.Need-returns
-returns c =
-    let a = c.before.before.before.before.before.before.before.before.before.before.before.before.args in
-    written binary32 8 a.states a.observations a.a.now a.q.now a.h.now a.r.now a.card.now a.length.now _ c.before.before.before.before.before.write.ensures c.before.l.given.1
+returns-in-Length : tie.Need-returns-in-Length
+returns-in-Length c =
+    let a = c.args in
+    written binary32 8 a.states a.observations a.a.now a.q.now a.h.now a.r.now a.card.now a.length.now _ c.write.ensures c.in-Length.is
 
-same-length-2 : tie.Need-same-length-2
-same-length-2 c = search rules
+shape_of-card-in-Refused : tie.Need-shape_of-card-in-Refused
+shape_of-card-in-Refused c = search rules
 
-returns-2 : tie.Need-returns-2
-returns-2 c =
-    let a = c.before.before.before.before.before.before.before.before.before.before.before.before.before.args in
-    refused binary32 8 a.states a.observations a.a.now a.q.now a.h.now a.r.now a.card.now a.length.now _ c.before.before.before.before.before.before.write.ensures c.before.before.v.given.1 c.code_of.ensures
+returns-in-Refused : tie.Need-returns-in-Refused
+returns-in-Refused c =
+    let a = c.args in
+    refused binary32 8 a.states a.observations a.a.now a.q.now a.h.now a.r.now a.card.now a.length.now _ c.write.ensures c.in-Refused.is c.code_of.ensures
 
-pub yurgamysh-card-write-spec : {M : Type 1} → statement M
-yurgamysh-card-write-spec =
+pub yurgamysh_card_write_spec : {M : Type 1} → statement M
+yurgamysh_card_write_spec =
     tie.close
     (tie.spec
     write-requires
-    enum-known-l
-    enum-known-v
-    code-of-requires
-    same_length
-    returns
-    same-length-2
-    returns-2)
+    enum_known-l
+    enum_known-v
+    code_of-requires
+    shape_of-card-in-Length
+    returns-in-Length
+    shape_of-card-in-Refused
+    returns-in-Refused)

@@ -18,145 +18,143 @@ use Rattle.card_verdicts.proofs.matrices.Tie as tie
 some : (m n : ℕ) → 1 ≤ m → 1 ≤ n → 1 ≤ m * n
 some m n h k = mul-pos h k
 
--- line 4 is right, and line 5 begins behind it
-at_q : (c : tie.In-Next-2) → (entries_line 8 a_key (c.args.n * c.args.n) (behind_lines 3 c.args.s.now) ≡ true) × Here c.args.s.now c.in-Next.q 4
-at_q c = entries_right c.args.s.now c.args.at 3 c.requires.0 8 _ a_key _ (sym c.in-Next.is ∙ c.entries_line.ensures)
-
--- line 5 is right, and line 6 begins behind it
-at_h : (c : tie.In-Next-entries_line-4) → (entries_line 8 q_key (c.args.n * c.args.n) (behind_lines 4 c.args.s.now) ≡ true) × Here c.args.s.now c.in-Next.h 5
-at_h c = entries_right c.args.s.now _ 4 (at_q c.before.before.before.before).1 8 _ q_key _ (sym c.in-Next-entries_line.is ∙ c.entries_line-2.ensures)
-
--- line 6 is right, and line 7 begins behind it
-at_r : (c : tie.In-Next-entries_line-2-2) → (entries_line 8 h_key (c.args.m * c.args.n) (behind_lines 5 c.args.s.now) ≡ true) × Here c.args.s.now c.in-Next-entries_line.r 6
-at_r c = entries_right c.args.s.now _ 5 (at_h c.before.before.before.before).1 8 _ h_key _ (sym c.in-Next-entries_line-2.is ∙ c.entries_line-3.ensures)
-
--- line 7 is right, and line 8 begins behind it
-at_end : (c : tie.In-Next-entries_line-3-2) → (entries_line 8 r_key (c.args.m * c.args.m) (behind_lines 6 c.args.s.now) ≡ true) × Here c.args.s.now c.in-Next-entries_line.end 7
-at_end c = entries_right c.args.s.now _ 6 (at_r c.before.before.before.before).1 8 _ r_key _ (sym c.in-Next-entries_line-3.is ∙ c.entries_line-4.ensures)
-
-slice-aggregate-entries-line : tie.Need-slice-aggregate-entries-line
-slice-aggregate-entries-line c = search rules
-
 overflow_mul-n : tie.Need-overflow_mul-n
-overflow_mul-n c = let e = c.before.before in let h = few _ _ e.requires.2 e.requires.2 in omega arith
+overflow_mul-n c =
+    let k = few _ _ c.requires.2 c.requires.2 in omega arith
 
 entries_line-requires : tie.Need-entries_line-requires
 unfolding ends
-entries_line-requires c κs = let e = c.before.before in (e.requires.0.0, refl, some _ _ e.requires.1 e.requires.1)
+entries_line-requires c κs =
+    (c.requires.0.0, refl, some _ _ c.requires.1 c.requires.1)
 
 enum_known-q : tie.Need-enum_known-q
-enum_known-q c = search rules
+enum_known-q c =
+    search rules
 
 enum_told-1 : tie.Need-enum_told-1
-enum_told-1 c = search rules
+enum_told-1 c =
+    search rules
 
 returns-in_default : tie.Need-returns-in_default
 returns-in_default c =
-    let e = c.before.before.before.before in
-    let s = e.args.s.now in
-    sym (line_4 8 e.args.n e.args.m s (entries_wrong s c.args.at 3 c.requires.0 8 _ a_key (sym c.in_default.is ∙ c.entries_line.ensures)))
-
-slice-aggregate-entries-line-2 : tie.Need-slice-aggregate-entries-line-2
-slice-aggregate-entries-line-2 c = search rules
+    let s = c.args.s.now in
+    sym (line_4 8 c.args.n c.args.m s (entries_wrong s c.args.at 3 c.requires.0 8 _ a_key (sym c.in_default.is ∙ c.entries_line.ensures)))
 
 overflow_mul-n-2 : tie.Need-overflow_mul-n-2
-overflow_mul-n-2 c = let e = c.before.before.before.before.before in let h = few _ _ e.requires.2 e.requires.2 in omega arith
+overflow_mul-n-2 c =
+    let k = few _ _ c.requires.2 c.requires.2 in omega arith
 
 entries_line-requires-2 : tie.Need-entries_line-requires-2
 unfolding ends
-entries_line-requires-2 c κs = let e = c.before.before.before.before.before in ((at_q c.before.before).1.0, refl, some _ _ e.requires.1 e.requires.1)
+entries_line-requires-2 c κs =
+    let q = entries_right c.args.s.now c.args.at 3 c.requires.0 8 _ a_key _ c.in-Next.ensures in
+    (q.1.0, refl, some _ _ c.requires.1 c.requires.1)
 
 enum_known-h : tie.Need-enum_known-h
-enum_known-h c = search rules
+enum_known-h c =
+    search rules
 
 enum_told-in_default-entries_line : tie.Need-enum_told-in_default-entries_line
-enum_told-in_default-entries_line c = search rules
+enum_told-in_default-entries_line c =
+    search rules
 
 returns-in_default-entries_line : tie.Need-returns-in_default-entries_line
 returns-in_default-entries_line c =
-    let e = c.before.before.before.before.before.before.before in
-    let s = e.args.s.now in
-    sym (line_5 8 e.args.n e.args.m s (at_q c.before.before.before.before).0 (entries_wrong s _ 4 (at_q c.before.before.before.before).1 8 _ q_key (sym c.in_default-entries_line.is ∙ c.entries_line-2.ensures)))
-
-slice-aggregate-entries-line-3 : tie.Need-slice-aggregate-entries-line-3
-slice-aggregate-entries-line-3 c = search rules
+    let q = entries_right c.args.s.now c.args.at 3 c.requires.0 8 _ a_key _ c.in-Next.ensures in
+    let s = c.args.s.now in
+    sym (line_5 8 c.args.n c.args.m s q.0 (entries_wrong s _ 4 q.1 8 _ q_key (sym c.in_default-entries_line.is ∙ c.entries_line-2.ensures)))
 
 overflow_mul-m : tie.Need-overflow_mul-m
-overflow_mul-m c = let e = c.before.before.before.before.before.before.before.before in let h = few _ _ e.requires.4 e.requires.2 in omega arith
+overflow_mul-m c =
+    let k = few _ _ c.requires.4 c.requires.2 in omega arith
 
 entries_line-requires-3 : tie.Need-entries_line-requires-3
 unfolding ends
-entries_line-requires-3 c κs = let e = c.before.before.before.before.before.before.before.before in ((at_h c.before.before).1.0, refl, some _ _ e.requires.3 e.requires.1)
+entries_line-requires-3 c κs =
+    let q = entries_right c.args.s.now c.args.at 3 c.requires.0 8 _ a_key _ c.in-Next.ensures in
+    let h = entries_right c.args.s.now _ 4 q.1 8 _ q_key _ c.in-Next-entries_line.ensures in
+    (h.1.0, refl, some _ _ c.requires.3 c.requires.1)
 
 enum_known-r : tie.Need-enum_known-r
-enum_known-r c = search rules
+enum_known-r c =
+    search rules
 
 enum_told-in_default-entries_line-2 : tie.Need-enum_told-in_default-entries_line-2
-enum_told-in_default-entries_line-2 c = search rules
+enum_told-in_default-entries_line-2 c =
+    search rules
 
 returns-in_default-entries_line-2 : tie.Need-returns-in_default-entries_line-2
 returns-in_default-entries_line-2 c =
-    let e = c.before.before.before.before.before.before.before.before.before.before in
-    let s = e.args.s.now in
-    sym (line_6 8 e.args.n e.args.m s (at_q c.before.before.before.before.before.before.before).0 (at_h c.before.before.before.before).0 (entries_wrong s _ 5 (at_h c.before.before.before.before).1 8 _ h_key (sym c.in_default-entries_line-2.is ∙ c.entries_line-3.ensures)))
-
-slice-aggregate-entries-line-4 : tie.Need-slice-aggregate-entries-line-4
-slice-aggregate-entries-line-4 c = search rules
+    let q = entries_right c.args.s.now c.args.at 3 c.requires.0 8 _ a_key _ c.in-Next.ensures in
+    let h = entries_right c.args.s.now _ 4 q.1 8 _ q_key _ c.in-Next-entries_line.ensures in
+    let s = c.args.s.now in
+    sym (line_6 8 c.args.n c.args.m s q.0 h.0 (entries_wrong s _ 5 h.1 8 _ h_key (sym c.in_default-entries_line-2.is ∙ c.entries_line-3.ensures)))
 
 overflow_mul-m-2 : tie.Need-overflow_mul-m-2
-overflow_mul-m-2 c = let e = c.before.before.before.before.before.before.before.before.before.before.before in let h = few _ _ e.requires.4 e.requires.4 in omega arith
+overflow_mul-m-2 c =
+    let k = few _ _ c.requires.4 c.requires.4 in omega arith
 
 entries_line-requires-4 : tie.Need-entries_line-requires-4
 unfolding ends
-entries_line-requires-4 c κs = let e = c.before.before.before.before.before.before.before.before.before.before.before in ((at_r c.before.before).1.0, refl, some _ _ e.requires.3 e.requires.3)
+entries_line-requires-4 c κs =
+    let q = entries_right c.args.s.now c.args.at 3 c.requires.0 8 _ a_key _ c.in-Next.ensures in
+    let h = entries_right c.args.s.now _ 4 q.1 8 _ q_key _ c.in-Next-entries_line.ensures in
+    let r = entries_right c.args.s.now _ 5 h.1 8 _ h_key _ c.in-Next-entries_line-2.ensures in
+    (r.1.0, refl, some _ _ c.requires.3 c.requires.3)
 
 enum_known-end : tie.Need-enum_known-end
-enum_known-end c = search rules
+enum_known-end c =
+    search rules
 
 enum_told-in_default-entries_line-3 : tie.Need-enum_told-in_default-entries_line-3
-enum_told-in_default-entries_line-3 c = search rules
+enum_told-in_default-entries_line-3 c =
+    search rules
 
 returns-in_default-entries_line-3 : tie.Need-returns-in_default-entries_line-3
 returns-in_default-entries_line-3 c =
-    let e = c.before.before.before.before.before.before.before.before.before.before.before.before.before in
-    let s = e.args.s.now in
-    sym (line_7 8 e.args.n e.args.m s (at_q c.before.before.before.before.before.before.before.before.before.before).0 (at_h c.before.before.before.before.before.before.before).0 (at_r c.before.before.before.before).0 (entries_wrong s _ 6 (at_r c.before.before.before.before).1 8 _ r_key (sym c.in_default-entries_line-3.is ∙ c.entries_line-4.ensures)))
+    let q = entries_right c.args.s.now c.args.at 3 c.requires.0 8 _ a_key _ c.in-Next.ensures in
+    let h = entries_right c.args.s.now _ 4 q.1 8 _ q_key _ c.in-Next-entries_line.ensures in
+    let r = entries_right c.args.s.now _ 5 h.1 8 _ h_key _ c.in-Next-entries_line-2.ensures in
+    let s = c.args.s.now in
+    sym (line_7 8 c.args.n c.args.m s q.0 h.0 r.0 (entries_wrong s _ 6 r.1 8 _ r_key (sym c.in_default-entries_line-3.is ∙ c.entries_line-4.ensures)))
 
 returns-then-end-s : tie.Need-returns-then-end-s
 returns-then-end-s c =
-    let e = c.before.before.before.before.before.before.before.before.before.before.before.before.before.before in
-    let s = e.args.s.now in
-    sym (behind_decides 8 e.args.n e.args.m s (at_q c.before.before.before.before.before.before.before.before.before.before.before).0 (at_h c.before.before.before.before.before.before.before.before).0 (at_r c.before.before.before.before.before).0 (at_end c.before.before).0 _ (something s _ 7 (at_end c.before.before).1 c.if-end-s.true))
+    let q = entries_right c.args.s.now c.args.at 3 c.requires.0 8 _ a_key _ c.in-Next.ensures in
+    let h = entries_right c.args.s.now _ 4 q.1 8 _ q_key _ c.in-Next-entries_line.ensures in
+    let r = entries_right c.args.s.now _ 5 h.1 8 _ h_key _ c.in-Next-entries_line-2.ensures in
+    let l = entries_right c.args.s.now _ 6 r.1 8 _ r_key _ c.in-Next-entries_line-3.ensures in
+    let s = c.args.s.now in
+    sym (behind_decides 8 c.args.n c.args.m s q.0 h.0 r.0 l.0 _ (something s _ 7 l.1 c.if-end-s.true))
 
 returns-else-end-s : tie.Need-returns-else-end-s
 returns-else-end-s c =
-    let e = c.before.before.before.before.before.before.before.before.before.before.before.before.before.before in
-    let s = e.args.s.now in
-    sym (behind_decides 8 e.args.n e.args.m s (at_q c.before.before.before.before.before.before.before.before.before.before.before).0 (at_h c.before.before.before.before.before.before.before.before).0 (at_r c.before.before.before.before.before).0 (at_end c.before.before).0 _ (nothing_more s _ 7 (at_end c.before.before).1 c.if-end-s.false))
+    let q = entries_right c.args.s.now c.args.at 3 c.requires.0 8 _ a_key _ c.in-Next.ensures in
+    let h = entries_right c.args.s.now _ 4 q.1 8 _ q_key _ c.in-Next-entries_line.ensures in
+    let r = entries_right c.args.s.now _ 5 h.1 8 _ h_key _ c.in-Next-entries_line-2.ensures in
+    let l = entries_right c.args.s.now _ 6 r.1 8 _ r_key _ c.in-Next-entries_line-3.ensures in
+    let s = c.args.s.now in
+    sym (behind_decides 8 c.args.n c.args.m s q.0 h.0 r.0 l.0 _ (nothing_more s _ 7 l.1 c.if-end-s.false))
 
 pub matrices_spec : {M : Type 1} → statement M
 matrices_spec =
     tie.close
     (tie.spec
-    slice-aggregate-entries-line
     overflow_mul-n
     entries_line-requires
     enum_known-q
     enum_told-1
     returns-in_default
-    slice-aggregate-entries-line-2
     overflow_mul-n-2
     entries_line-requires-2
     enum_known-h
     enum_told-in_default-entries_line
     returns-in_default-entries_line
-    slice-aggregate-entries-line-3
     overflow_mul-m
     entries_line-requires-3
     enum_known-r
     enum_told-in_default-entries_line-2
     returns-in_default-entries_line-2
-    slice-aggregate-entries-line-4
     overflow_mul-m-2
     entries_line-requires-4
     enum_known-end

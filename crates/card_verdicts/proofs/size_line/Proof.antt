@@ -35,10 +35,9 @@ returns-then-is_done c =
     let a = c.args in
     let key = a.key.now in
     let s = a.s.now in
-    let g = c.n-1.given in
-    let e = sym g.1 ∙ c.count_line.ensures in
-    let n = g.0.0 in
-    let q = g.0.1.0 in
+    let e = c.in-Number.ensures in
+    let n = c.in-Number.n in
+    let q = c.in-Number.next in
     let v = c.then_size-v in
     let done = sym c.is_done.ensures ∙ c.if-is_done.true in
     let range = size_range a.which n (ap is_done (sym v.ensures) ∙ done) in (
@@ -55,10 +54,9 @@ returns-else-is_done c =
     let a = c.args in
     let key = a.key.now in
     let s = a.s.now in
-    let g = c.n-1.given in
-    let e = sym g.1 ∙ c.count_line.ensures in
-    let n = g.0.0 in
-    let q = g.0.1.0 in
+    let e = c.in-Number.ensures in
+    let n = c.in-Number.n in
+    let q = c.in-Number.next in
     let v = c.then_size-v in (
       size_line_says key (drop a.at s) a.line a.which n v.result (is_count_lem key s a.at n q e) (the_count key s a.at n q e) v.ensures,
       sym c.is_done.ensures ∙ c.if-is_done.false,

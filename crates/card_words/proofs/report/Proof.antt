@@ -8,95 +8,84 @@ use Rattle.card_words.proofs.Reporting.{words_put, card_put, not_refused}
 use Rattle.card_words.proofs.report.Statement.{statement}
 use Rattle.card_words.proofs.report.Tie as tie
 
--- what is known behind the reader's call, and where the function begins
-abbrev reader : tie.After-write → tie.After-read
-reader c = c.before.before.before.before.before.before.before.before.before.before.before.before.before.before.before.before.before
+slice_bounds-a-end : tie.Need-slice_bounds-a-end
+slice_bounds-a-end c = search rules
 
-abbrev start : tie.After-read → tie.Start
-start c = c.before.before.before.before.before.before.before.before.before.before.before
+slice_bounds-q-end : tie.Need-slice_bounds-q-end
+slice_bounds-q-end c = search rules
 
-slice-aggregate-a : tie.Need-slice-aggregate-a
-slice-aggregate-a c = search rules
+slice_bounds-h-end : tie.Need-slice_bounds-h-end
+slice_bounds-h-end c = search rules
 
-slice-aggregate-q : tie.Need-slice-aggregate-q
-slice-aggregate-q c = search rules
-
-slice-aggregate-h : tie.Need-slice-aggregate-h
-slice-aggregate-h c = search rules
-
-slice-aggregate-r : tie.Need-slice-aggregate-r
-slice-aggregate-r c = search rules
+slice_bounds-r-end : tie.Need-slice_bounds-r-end
+slice_bounds-r-end c = search rules
 
 read-requires : tie.Need-read-requires
 read-requires c κs = search rules
 
-enum-known-v : tie.Need-enum-known-v
-enum-known-v c = search rules
+enum_known-v : tie.Need-enum_known-v
+enum_known-v c = search rules
 
-put-words-requires : tie.Need-put-words-requires
-put-words-requires c κs = search rules
+put_words-requires : tie.Need-put_words-requires
+put_words-requires c κs = search rules
 
-enum-known-n : tie.Need-enum-known-n
-enum-known-n c = search rules
+enum_known-n : tie.Need-enum_known-n
+enum_known-n c = search rules
 
 write-requires : tie.Need-write-requires
 write-requires c κs = search rules
 
-enum-known-l : tie.Need-enum-known-l
-enum-known-l c = search rules
+enum_known-l : tie.Need-enum_known-l
+enum_known-l c = search rules
 
-enum-known-v-2 : tie.Need-enum-known-v-2
-enum-known-v-2 c = search rules
+enum_known-v-in-Refused-write : tie.Need-enum_known-v-in-Refused-write
+enum_known-v-in-Refused-write c = search rules
 
-put-words-requires-2 : tie.Need-put-words-requires-2
-put-words-requires-2 c κs =
-    let w = c.before.before.before.before.before.before.before.before.before.before in
-    omega (arith, w.write.auto, (start (reader w)).requires)
+put_words-requires-in-Refused-write : tie.Need-put_words-requires-in-Refused-write
+put_words-requires-in-Refused-write c κs =
+    omega (arith, c.write.auto, c.requires)
 
-same_length : tie.Need-same-length
-same_length c = search rules
+shape_of-out-in-Refused : tie.Need-shape_of-out-in-Refused
+shape_of-out-in-Refused c = search rules
 
-returns : tie.Need-returns
-returns c =
-    let g = c.before.before in
-    words_put binary32 8 _ c.before.before.before.before.before.before.before.before.before.before.before.before.before.before.before.before.before.before.before.read.ensures (lit≤ tt) (lit≤ tt) (lit≤ tt) (lit≤ tt) _ _ _ _ c.before.before.before.before.before.before.before.before.before.v.given.1 g.put-words.ensures.0 g.put-words.ensures.1
+returns-in-Refused : tie.Need-returns-in-Refused
+returns-in-Refused c =
+    words_put binary32 8 _ c.read.ensures (lit≤ tt) (lit≤ tt) (lit≤ tt) (lit≤ tt) _ _ _ _ c.in-Refused.is c.put_words.ensures.0 c.put_words.ensures.1
 
-same-length-2 : tie.Need-same-length-2
-same-length-2 c = search rules
+shape_of-out-in-Length : tie.Need-shape_of-out-in-Length
+shape_of-out-in-Length c = search rules
 
-returns-2 : tie.Need-returns-2
-returns-2 c =
-    let w = c.before.before.before.before.before.before.before.before.before in
-    card_put binary32 8 _ (reader w).read.ensures (lit≤ tt) (lit≤ tt) (lit≤ tt) (lit≤ tt) _ _ w.before.before.before.before.before.before.before.n.given.1 w.write.ensures (start (reader w)).requires _ eight c.before.l.given.1
+returns-in-Length : tie.Need-returns-in-Length
+returns-in-Length c =
+    card_put binary32 8 _ c.read.ensures (lit≤ tt) (lit≤ tt) (lit≤ tt) (lit≤ tt) _ _ c.in-Sizes.is c.write.ensures c.requires _ eight c.in-Length.is
 
-same-length-3 : tie.Need-same-length-3
-same-length-3 c = search rules
+shape_of-out-in-Refused-write : tie.Need-shape_of-out-in-Refused-write
+shape_of-out-in-Refused-write c = search rules
 
-returns-3 : tie.Need-returns-3
-returns-3 c =
-    let w = c.before.before.before.before.before.before.before.before.before.before.before.before.before in
-    let k = (reader w).read.auto in
-    absurd (not_refused binary32 8 _ (reader w).read.ensures (lit≤ tt) (lit≤ tt) (lit≤ tt) (lit≤ tt) _ _ w.before.before.before.before.before.before.before.n.given.1 w.write.ensures (start (reader w)).requires _ c.before.before.before.before.before.v2.given.1 (omega (arith, k)) (omega (arith, k)) (omega (arith, k)) (omega (arith, k)))
+returns-in-Refused-write : tie.Need-returns-in-Refused-write
+returns-in-Refused-write c =
+    let k = c.read.auto in
+    absurd (not_refused binary32 8 _ c.read.ensures (lit≤ tt) (lit≤ tt) (lit≤ tt) (lit≤ tt) _ _ c.in-Sizes.is c.write.ensures c.requires _ c.in-Refused-write.is (omega (arith, k)) (omega (arith, k)) (omega (arith, k)) (omega (arith, k)))
 
-pub report-spec : {M : Type 1} → statement M
-report-spec =
+pub report_spec : {M : Type 1} → statement M
+report_spec =
     tie.close
     (tie.spec
-    slice-aggregate-a
-    slice-aggregate-q
-    slice-aggregate-h
-    slice-aggregate-r
+    slice_bounds-a-end
+    slice_bounds-q-end
+    slice_bounds-h-end
+    slice_bounds-r-end
     read-requires
-    enum-known-v
-    put-words-requires
-    enum-known-n
+    enum_known-v
+    put_words-requires
+    enum_known-n
     write-requires
-    enum-known-l
-    enum-known-v-2
-    put-words-requires-2
-    same_length
-    returns
-    same-length-2
-    returns-2
-    same-length-3
-    returns-3)
+    enum_known-l
+    enum_known-v-in-Refused-write
+    put_words-requires-in-Refused-write
+    shape_of-out-in-Refused
+    returns-in-Refused
+    shape_of-out-in-Length
+    returns-in-Length
+    shape_of-out-in-Refused-write
+    returns-in-Refused-write)

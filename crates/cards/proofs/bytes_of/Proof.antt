@@ -10,64 +10,64 @@ use Rattle.cards.proofs.bytes_of.Tie as tie
 few : (c : tie.Start) → (c.args.n * c.args.n ≤ 256) × (c.args.m * c.args.n ≤ 256) × (c.args.m * c.args.m ≤ 256)
 few c = squares c.args.n c.args.m c.requires.0 c.requires.1
 
-mul-entries : tie.Need-overflow-mul-entries
-mul-entries c = omega (arith, few c)
+overflow_mul-entries : tie.Need-overflow_mul-entries
+overflow_mul-entries c = omega (arith, few c)
 
-mul-entries-2 : tie.Need-overflow-mul-entries-2
-mul-entries-2 c = omega (arith, few c)
+overflow_mul-entries-2 : tie.Need-overflow_mul-entries-2
+overflow_mul-entries-2 c = omega (arith, few c)
 
-add-entries : tie.Need-overflow-add-entries
-add-entries c = omega (arith, few c)
+overflow_add-entries : tie.Need-overflow_add-entries
+overflow_add-entries c = omega (arith, few c)
 
-mul-entries-3 : tie.Need-overflow-mul-entries-3
-mul-entries-3 c = omega (arith, few c)
+overflow_mul-entries-3 : tie.Need-overflow_mul-entries-3
+overflow_mul-entries-3 c = omega (arith, few c)
 
-add-entries-2 : tie.Need-overflow-add-entries-2
-add-entries-2 c = omega (arith, few c)
+overflow_add-entries-2 : tie.Need-overflow_add-entries-2
+overflow_add-entries-2 c = omega (arith, few c)
 
-mul-entries-4 : tie.Need-overflow-mul-entries-4
-mul-entries-4 c = omega (arith, few c)
+overflow_mul-entries-4 : tie.Need-overflow_mul-entries-4
+overflow_mul-entries-4 c = omega (arith, few c)
 
-add-entries-3 : tie.Need-overflow-add-entries-3
-add-entries-3 c = omega (arith, few c)
+overflow_add-entries-3 : tie.Need-overflow_add-entries-3
+overflow_add-entries-3 c = omega (arith, few c)
 
-digits-of-requires : tie.Need-digits-of-requires
-digits-of-requires c κs = tt
+digits_of-requires : tie.Need-digits_of-requires
+digits_of-requires c κs = tt
 
-add-result : tie.Need-overflow-add-result
-add-result c = omega (arith, c.digits_of.ensures, digits_at_most c.before.args.n)
+overflow_add-result : tie.Need-overflow_add-result
+overflow_add-result c = omega (arith, c.digits_of.ensures, digits_at_most c.args.n)
 
-digits-of-requires-2 : tie.Need-digits-of-requires-2
-digits-of-requires-2 c κs = tt
+digits_of-requires-2 : tie.Need-digits_of-requires-2
+digits_of-requires-2 c κs = tt
 
-add-result-2 : tie.Need-overflow-add-result-2
-add-result-2 c = omega (arith, c.before.digits_of.ensures, c.digits-of2.ensures, digits_at_most c.before.before.args.n, digits_at_most c.before.before.args.m)
+overflow_add-result-2 : tie.Need-overflow_add-result-2
+overflow_add-result-2 c = omega (arith, c.digits_of.ensures, c.digits_of-2.ensures, digits_at_most c.args.n, digits_at_most c.args.m)
 
-mul-result : tie.Need-overflow-mul-result
-mul-result c = omega (arith, few c.before.before)
+overflow_mul-result : tie.Need-overflow_mul-result
+overflow_mul-result c = omega (arith, few c.before.before)
 
-add-result-3 : tie.Need-overflow-add-result-3
-add-result-3 c = omega (arith, c.before.digits_of.ensures, c.digits-of2.ensures, digits_at_most c.before.before.args.n, digits_at_most c.before.before.args.m, few c.before.before)
+overflow_add-result-3 : tie.Need-overflow_add-result-3
+overflow_add-result-3 c = omega (arith, c.digits_of.ensures, c.digits_of-2.ensures, digits_at_most c.args.n, digits_at_most c.args.m, few c.before.before)
 
 returns : tie.Need-returns
 unfolding card_length
-returns c = omega (arith, c.before.digits_of.ensures, c.digits-of2.ensures)
+returns c = omega (arith, c.digits_of.ensures, c.digits_of-2.ensures)
 
-pub bytes-of-spec : {M : Type 1} → statement M
-bytes-of-spec =
+pub bytes_of_spec : {M : Type 1} → statement M
+bytes_of_spec =
     tie.close
     (tie.spec
-    mul-entries
-    mul-entries-2
-    add-entries
-    mul-entries-3
-    add-entries-2
-    mul-entries-4
-    add-entries-3
-    digits-of-requires
-    add-result
-    digits-of-requires-2
-    add-result-2
-    mul-result
-    add-result-3
+    overflow_mul-entries
+    overflow_mul-entries-2
+    overflow_add-entries
+    overflow_mul-entries-3
+    overflow_add-entries-2
+    overflow_mul-entries-4
+    overflow_add-entries-3
+    digits_of-requires
+    overflow_add-result
+    digits_of-requires-2
+    overflow_add-result-2
+    overflow_mul-result
+    overflow_add-result-3
     returns)

@@ -3,11 +3,11 @@ use borrow.Author.Tests.{lt-ltb, le-ltb}
 use Rattle.cards.proofs.digits_of.Statement.{statement}
 use Rattle.cards.proofs.digits_of.Tie as tie
 
-returns : tie.Need-returns
-returns c = rw (lt-ltb c.before.args.n 10 c.if1.true)
+returns-then-n-lt10 : tie.Need-returns-then-n-lt10
+returns-then-n-lt10 c = rw (lt-ltb c.args.n 10 c.if-n-lt10.true)
 
-returns-2 : tie.Need-returns-2
-returns-2 c = rw (le-ltb c.before.args.n 10 c.if1.false)
+returns-else-n-lt10 : tie.Need-returns-else-n-lt10
+returns-else-n-lt10 c = rw (le-ltb c.args.n 10 c.if-n-lt10.false)
 
-pub digits-of-spec : {M : Type 1} → statement M
-digits-of-spec = tie.close (tie.spec returns returns-2)
+pub digits_of_spec : {M : Type 1} → statement M
+digits_of_spec = tie.close (tie.spec returns-then-n-lt10 returns-else-n-lt10)

@@ -9,41 +9,41 @@ use Rattle.cards.proofs.length_of.Statement.{statement}
 use Rattle.cards.proofs.length_of.Tie as tie
 
 -- the answer after both tests
-answered : (c : tie.After-then-size2) → c.then-size2.result ≡ sizes_answer c.before.before.args.n c.before.before.args.m
+answered : (c : tie.After-then_size-v) → c.then_size-v.result ≡ sizes_answer c.args.n c.args.m
 unfolding sizes_answer
-answered c = asked (size_test 1 c.before.before.args.m) c.before.then-size.ensures c.then-size2.ensures
+answered c = asked (size_test 1 c.args.m) c.then_size-states.ensures c.then_size-v.ensures
 
-then-size-requires : tie.Need-then-size-requires
-then-size-requires c κs = tt
+then_size-states-requires : tie.Need-then_size-states-requires
+then_size-states-requires c κs = tt
 
-then-size-requires-2 : tie.Need-then-size-requires-2
-then-size-requires-2 c κs = tt
+then_size-v-requires : tie.Need-then_size-v-requires
+then_size-v-requires c κs = tt
 
-is-done-requires : tie.Need-is-done-requires
-is-done-requires c κs = tt
+is_done-requires : tie.Need-is_done-requires
+is_done-requires c κs = tt
 
-bytes-of-requires : tie.Need-bytes-of-requires
-bytes-of-requires c κs =
-    let s = sizes_fit _ _ (ap is_done (sym (answered c.before.before)) ∙ sym c.before.is-done.ensures ∙ c.if1.true) in
+bytes_of-requires : tie.Need-bytes_of-requires
+bytes_of-requires c κs =
+    let s = sizes_fit _ _ (ap is_done (sym (answered c.before.before)) ∙ sym c.is_done.ensures ∙ c.if-is_done.true) in
     (s.1, s.3)
 
-returns : tie.Need-returns
-returns c =
+returns-then-is_done : tie.Need-returns-then-is_done
+returns-then-is_done c =
     let a = c.before.before.before in
-    rw (sym (answered a), sym c.before.before.is-done.ensures, c.before.if1.true, c.bytes_of.ensures)
+    rw (sym (answered a), sym c.is_done.ensures, c.if-is_done.true, c.bytes_of.ensures)
 
-returns-2 : tie.Need-returns-2
-returns-2 c =
+returns-else-is_done : tie.Need-returns-else-is_done
+returns-else-is_done c =
     let a = c.before.before in
-    rw (sym (answered a), sym c.before.is-done.ensures, c.if1.false)
+    rw (sym (answered a), sym c.is_done.ensures, c.if-is_done.false)
 
-pub length-of-spec : {M : Type 1} → statement M
-length-of-spec =
+pub length_of_spec : {M : Type 1} → statement M
+length_of_spec =
     tie.close
     (tie.spec
-    then-size-requires
-    then-size-requires-2
-    is-done-requires
-    bytes-of-requires
-    returns
-    returns-2)
+    then_size-states-requires
+    then_size-v-requires
+    is_done-requires
+    bytes_of-requires
+    returns-then-is_done
+    returns-else-is_done)

@@ -7,34 +7,34 @@ use Rattle.cards.specs.Steps.{room_answer}
 use Rattle.cards.proofs.room.Statement.{statement}
 use Rattle.cards.proofs.room.Tie as tie
 
-then-matrix-requires : tie.Need-then-matrix-requires
-then-matrix-requires c κs = search rules
+then_matrix-a-requires : tie.Need-then_matrix-a-requires
+then_matrix-a-requires c κs = search rules
 
-then-matrix-requires-2 : tie.Need-then-matrix-requires-2
-then-matrix-requires-2 c κs = search rules
+then_matrix-q-requires : tie.Need-then_matrix-q-requires
+then_matrix-q-requires c κs = search rules
 
-then-matrix-requires-3 : tie.Need-then-matrix-requires-3
-then-matrix-requires-3 c κs = search rules
+then_matrix-h-requires : tie.Need-then_matrix-h-requires
+then_matrix-h-requires c κs = search rules
 
-then-matrix-requires-4 : tie.Need-then-matrix-requires-4
-then-matrix-requires-4 c κs = search rules
+then_matrix-requires : tie.Need-then_matrix-requires
+then_matrix-requires c κs = search rules
 
 returns : tie.Need-returns
 unfolding room_answer
 returns c =
-    let a = c.before.before.before.before.args in
+    let a = c.args in
     asked (buffer_test 3 (a.m * a.m) a.lr)
     (asked (buffer_test 2 (a.m * a.n) a.lh)
-    (asked (buffer_test 1 (a.n * a.n) a.lq) c.before.before.before.then-matrix.ensures c.before.before.then-matrix2.ensures)
-    c.before.then-matrix3.ensures)
-    c.then-matrix4.ensures
+    (asked (buffer_test 1 (a.n * a.n) a.lq) c.then_matrix-a.ensures c.then_matrix-q.ensures)
+    c.then_matrix-h.ensures)
+    c.then_matrix.ensures
 
-pub room-spec : {M : Type 1} → statement M
-room-spec =
+pub room_spec : {M : Type 1} → statement M
+room_spec =
     tie.close
     (tie.spec
-    then-matrix-requires
-    then-matrix-requires-2
-    then-matrix-requires-3
-    then-matrix-requires-4
+    then_matrix-a-requires
+    then_matrix-q-requires
+    then_matrix-h-requires
+    then_matrix-requires
     returns)

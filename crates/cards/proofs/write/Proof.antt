@@ -15,81 +15,78 @@ use Rattle.cards.proofs.write.Tie as tie
 
 -- ---- what is known after the tests
 
-abbrev start : tie.After-then-buffer → tie.Start
-start c = c.before.before.before.before.before.before.before.before.before.before.before
-
 -- the length that was said is that of the sizes
-said : (c : tie.After-then-buffer) → Length c.before.before.before.l.given.0.0 ≡ measured (sizes_answer (start c).args.n (start c).args.m) (card_length 8 (start c).args.n (start c).args.m)
-said c = sym c.before.before.before.l.given.1 ∙ c.before.before.before.before.before.length-of.ensures
+said : (c : tie.After-then_buffer-all) → Length c.in-Length.l ≡ measured (sizes_answer c.args.n c.args.m) (card_length 8 c.args.n c.args.m)
+said c = sym c.in-Length.is ∙ c.length_of.ensures
 
-answered : (c : tie.After-then-buffer) → c.then-buffer.result ≡ write_answer 8 (start c).args.n (start c).args.m (length (start c).args.a.now) (length (start c).args.q.now) (length (start c).args.h.now) (length (start c).args.r.now) (length (start c).args.card.now)
-answered c = bytes_decide 8 (start c).args.n (start c).args.m _ _ _ _ _ _ c.before.room.result c.then-buffer.result (said c) c.before.room.ensures c.then-buffer.ensures
+answered : (c : tie.After-then_buffer-all) → c.then_buffer-all.result ≡ write_answer 8 c.args.n c.args.m (length c.args.a.now) (length c.args.q.now) (length c.args.h.now) (length c.args.r.now) (length c.args.card.now)
+answered c = bytes_decide 8 c.args.n c.args.m _ _ _ _ _ _ c.room-matrices.result c.then_buffer-all.result (said c) c.room-matrices.ensures c.then_buffer-all.ensures
 
 -- done: every size and every buffer is as it must be
-done : (c : tie.Then1) → is_done (write_answer 8 (start c.before.before).args.n (start c.before.before).args.m (length (start c.before.before).args.a.now) (length (start c.before.before).args.q.now) (length (start c.before.before).args.h.now) (length (start c.before.before).args.r.now) (length (start c.before.before).args.card.now)) ≡ true
-done c = ap is_done (sym (answered c.before.before)) ∙ sym c.before.is-done.ensures ∙ c.if1.true
+done : (c : tie.Then-is_done) → is_done (write_answer 8 c.args.n c.args.m (length c.args.a.now) (length c.args.q.now) (length c.args.h.now) (length c.args.r.now) (length c.args.card.now)) ≡ true
+done c = ap is_done (sym (answered c.before.before)) ∙ sym c.is_done.ensures ∙ c.if-is_done.true
 
-fits : (c : tie.Then1) → Fits 8 (start c.before.before).args.n (start c.before.before).args.m (length (start c.before.before).args.a.now) (length (start c.before.before).args.q.now) (length (start c.before.before).args.h.now) (length (start c.before.before).args.r.now) (length (start c.before.before).args.card.now)
+fits : (c : tie.Then-is_done) → Fits 8 c.args.n c.args.m (length c.args.a.now) (length c.args.q.now) (length c.args.h.now) (length c.args.r.now) (length c.args.card.now)
 fits c = write_fits 8 _ _ _ _ _ _ _ (done c)
 
-length-of-requires : tie.Need-length-of-requires
-length-of-requires c κs = search rules
+length_of-requires : tie.Need-length_of-requires
+length_of-requires c κs = search rules
 
-enum-known-v : tie.Need-enum-known-v
-enum-known-v c = search rules
+enum_known-v : tie.Need-enum_known-v
+enum_known-v c = search rules
 
-enum-known-l : tie.Need-enum-known-l
-enum-known-l c = search rules
+enum_known-l : tie.Need-enum_known-l
+enum_known-l c = search rules
 
-room-requires : tie.Need-room-requires
-room-requires c κs = search rules
+room-matrices-requires : tie.Need-room-matrices-requires
+room-matrices-requires c κs = search rules
 
-then-buffer-requires : tie.Need-then-buffer-requires
-then-buffer-requires c κs = search rules
+then_buffer-all-requires : tie.Need-then_buffer-all-requires
+then_buffer-all-requires c κs = search rules
 
-is-done-requires : tie.Need-is-done-requires
-is-done-requires c κs = search rules
+is_done-requires : tie.Need-is_done-requires
+is_done-requires c κs = search rules
 
-put-card-requires : tie.Need-put-card-requires
-put-card-requires c κs =
+put_card-requires : tie.Need-put_card-requires
+put_card-requires c κs =
     let s = fits c.before in
     (s.states_least, s.states_most, s.observations_least, s.observations_most, s.a, s.q, s.h, s.r, s.bytes)
 
-returns : tie.Need-returns
-returns c =
-    let a = c.before.before.before.before.before.before.before.before.before.args in
-    let e = sizes_decide 8 a.n a.m (length a.a.now) (length a.q.now) (length a.h.now) (length a.r.now) (length a.card.now) _ (sym c.before.v.given.1 ∙ c.before.before.before.length-of.ensures) in
+returns-in-Refused : tie.Need-returns-in-Refused
+returns-in-Refused c =
+    let a = c.args in
+    let e = sizes_decide 8 a.n a.m (length a.a.now) (length a.q.now) (length a.h.now) (length a.r.now) (length a.card.now) _ (sym c.in-Refused.is ∙ c.length_of.ensures) in
     write_refused binary32 8 a.n a.m a.a.now a.q.now a.h.now a.r.now a.card.now _ e.0 e.1
 
-same_length : tie.Need-same-length
-same_length c = search rules
+shape_of-card : tie.Need-shape_of-card
+shape_of-card c = search rules
 
-returns-2 : tie.Need-returns-2
-returns-2 c =
+returns-then-is_done : tie.Need-returns-then-is_done
+returns-then-is_done c =
     let t = c.before.before.before.before in
-    let a = (start t.before.before).args in
+    let a = t.args in
     write_done binary32 8 a.n a.m a.a.now a.q.now a.h.now a.r.now a.card.now (fits t) _ _
     (measured-length (sizes_answer a.n a.m) _ _ (said t.before.before)).1
     (done t)
-    c.before.before.put-card.ensures
+    c.put_card.ensures
 
-returns-3 : tie.Need-returns-3
-returns-3 c =
-    let a = (start c.before.before).args in
-    write_refused binary32 8 a.n a.m a.a.now a.q.now a.h.now a.r.now a.card.now _ (sym (answered c.before.before)) (sym c.before.is-done.ensures ∙ c.if1.false)
+returns-else-is_done : tie.Need-returns-else-is_done
+returns-else-is_done c =
+    let a = c.args in
+    write_refused binary32 8 a.n a.m a.a.now a.q.now a.h.now a.r.now a.card.now _ (sym (answered c.before.before)) (sym c.is_done.ensures ∙ c.if-is_done.false)
 
 pub write_spec : {M : Type 1} → statement M
 write_spec =
     tie.close
     (tie.spec
-    length-of-requires
-    enum-known-v
-    enum-known-l
-    room-requires
-    then-buffer-requires
-    is-done-requires
-    put-card-requires
-    returns
-    same_length
-    returns-2
-    returns-3)
+    length_of-requires
+    enum_known-v
+    enum_known-l
+    room-matrices-requires
+    then_buffer-all-requires
+    is_done-requires
+    put_card-requires
+    returns-in-Refused
+    shape_of-card
+    returns-then-is_done
+    returns-else-is_done)

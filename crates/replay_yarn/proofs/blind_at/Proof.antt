@@ -4,21 +4,21 @@ use borrow.Author.Rules.{rules}
 use Rattle.replay_yarn.proofs.blind_at.Statement.{statement}
 use Rattle.replay_yarn.proofs.blind_at.Tie as tie
 
-word-at-requires : tie.Need-word-at-requires
-word-at-requires c κs = search rules
+word_at-w-requires : tie.Need-word_at-w-requires
+word_at-w-requires c κs = search rules
 
-cast-t6 : tie.Need-overflow-cast-t6
-cast-t6 c = search rules
+overflow_cast-result : tie.Need-overflow_cast-result
+overflow_cast-result c = search rules
 
-returns : tie.Need-returns
-returns c =
-    let a = c.before.before.before.before.before.args in
-    byte a.s.now a.at _ c.before.before.before.word_at.ensures c.before.if1.true
+returns-then-w-lt256 : tie.Need-returns-then-w-lt256
+returns-then-w-lt256 c =
+    let a = c.args in
+    byte a.s.now a.at _ c.word_at-w.ensures c.if-w-lt256.true
 
-returns-2 : tie.Need-returns-2
-returns-2 c =
-    let a = c.before.before.before.before.args in
-    no_byte a.s.now a.at _ c.before.before.word_at.ensures c.if1.false
+returns-else-w-lt256 : tie.Need-returns-else-w-lt256
+returns-else-w-lt256 c =
+    let a = c.args in
+    no_byte a.s.now a.at _ c.word_at-w.ensures c.if-w-lt256.false
 
-pub blind-at-spec : {M : Type 1} → statement M
-blind-at-spec = tie.close (tie.spec word-at-requires cast-t6 returns returns-2)
+pub blind_at_spec : {M : Type 1} → statement M
+blind_at_spec = tie.close (tie.spec word_at-w-requires overflow_cast-result returns-then-w-lt256 returns-else-w-lt256)

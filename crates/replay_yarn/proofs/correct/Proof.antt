@@ -6,49 +6,49 @@ use borrow.Author.Rules.{rules}
 use Rattle.replay_yarn.proofs.correct.Statement.{statement}
 use Rattle.replay_yarn.proofs.correct.Tie as tie
 
-head-at-requires : tie.Need-head-at-requires
-head-at-requires c κs = search rules
+head_at-head-requires : tie.Need-head_at-head-requires
+head_at-head-requires c κs = search rules
 
-lend-requires : tie.Need-lend-requires
-lend-requires c κs = search rules
+lend-lent-requires : tie.Need-lend-lent-requires
+lend-lent-requires c κs = search rules
 
 correct-requires : tie.Need-correct-requires
 correct-requires c κs = search rules
 
-enum-known-next : tie.Need-enum-known-next
-enum-known-next c = search rules
+enum_known-next : tie.Need-enum_known-next
+enum_known-next c = search rules
 
 met-requires : tie.Need-met-requires
 met-requires c κs = search rules
 
-enum-known-same : tie.Need-enum-known-same
-enum-known-same c = search rules
+enum_known-same : tie.Need-enum_known-same
+enum_known-same c = search rules
 
-met-requires-2 : tie.Need-met-requires-2
-met-requires-2 c κs = search rules
+met-requires-in-Refused : tie.Need-met-requires-in-Refused
+met-requires-in-Refused c κs = search rules
 
-returns : tie.Need-returns
-returns c =
-    let a = c.before.before.before.before.before.before.before.before.before.args in
-    let told = sym c.before.before.next.given.1 in
-    correct_is a.s.now a.at a.h _ _ _ _ _ _ c.before.before.before.before.before.before.before.head_at.ensures c.before.before.before.before.before.before.lend.ensures c.before.before.before.before.correct.ensures (ap answer_of told) (ap handed_back told) c.met.ensures
+returns-in-Accepted : tie.Need-returns-in-Accepted
+returns-in-Accepted c =
+    let a = c.args in
+    let told = sym c.in-Accepted.is in
+    correct_is a.s.now a.at a.h _ _ _ _ _ _ c.head_at-head.ensures c.lend-lent.ensures c.correct.ensures (ap answer_of told) (ap handed_back told) c.met.ensures
 
-returns-2 : tie.Need-returns-2
-returns-2 c =
-    let a = c.before.before.before.before.before.before.before.before.before.args in
-    let told = sym c.before.before.same.given.1 in
-    correct_is a.s.now a.at a.h _ _ _ _ _ _ c.before.before.before.before.before.before.before.head_at.ensures c.before.before.before.before.before.before.lend.ensures c.before.before.before.before.correct.ensures (ap answer_of told) (ap handed_back told) c.met2.ensures
+returns-in-Refused : tie.Need-returns-in-Refused
+returns-in-Refused c =
+    let a = c.args in
+    let told = sym c.in-Refused.is in
+    correct_is a.s.now a.at a.h _ _ _ _ _ _ c.head_at-head.ensures c.lend-lent.ensures c.correct.ensures (ap answer_of told) (ap handed_back told) c.met-in-Refused.ensures
 
-pub correct-spec : {M : Type 1} → statement M
-correct-spec =
+pub correct_spec : {M : Type 1} → statement M
+correct_spec =
     tie.close
     (tie.spec
-    head-at-requires
-    lend-requires
+    head_at-head-requires
+    lend-lent-requires
     correct-requires
-    enum-known-next
+    enum_known-next
     met-requires
-    enum-known-same
-    met-requires-2
-    returns
-    returns-2)
+    enum_known-same
+    met-requires-in-Refused
+    returns-in-Accepted
+    returns-in-Refused)

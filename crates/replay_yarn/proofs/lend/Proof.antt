@@ -4,69 +4,69 @@ use borrow.Author.Rules.{rules}
 use Rattle.replay_yarn.proofs.lend.Statement.{statement}
 use Rattle.replay_yarn.proofs.lend.Tie as tie
 
-seven-at-requires : tie.Need-seven-at-requires
-seven-at-requires c κs = search rules
+seven_at-requires : tie.Need-seven_at-requires
+seven_at-requires c κs = search rules
 
-word-at-requires : tie.Need-word-at-requires
-word-at-requires c κs = search rules
+word_at-x-requires : tie.Need-word_at-x-requires
+word_at-x-requires c κs = search rules
 
-word-at-requires-2 : tie.Need-word-at-requires-2
-word-at-requires-2 c κs = search rules
+word_at-p-requires : tie.Need-word_at-p-requires
+word_at-p-requires c κs = search rules
 
-word-at-requires-3 : tie.Need-word-at-requires-3
-word-at-requires-3 c κs = search rules
+word_at-a-requires : tie.Need-word_at-a-requires
+word_at-a-requires c κs = search rules
 
-word-at-requires-4 : tie.Need-word-at-requires-4
-word-at-requires-4 c κs = search rules
+word_at-q-requires : tie.Need-word_at-q-requires
+word_at-q-requires c κs = search rules
 
-word-at-requires-5 : tie.Need-word-at-requires-5
-word-at-requires-5 c κs = search rules
+word_at-h-requires : tie.Need-word_at-h-requires
+word_at-h-requires c κs = search rules
 
-word-at-requires-6 : tie.Need-word-at-requires-6
-word-at-requires-6 c κs = search rules
+word_at-r-requires : tie.Need-word_at-r-requires
+word_at-r-requires c κs = search rules
 
-blind-at-requires : tie.Need-blind-at-requires
-blind-at-requires c κs = search rules
+blind_at-b-requires : tie.Need-blind_at-b-requires
+blind_at-b-requires c κs = search rules
 
-float-of-requires : tie.Need-float-of-requires
-float-of-requires c κs = search rules
+float_of-requires : tie.Need-float_of-requires
+float_of-requires c κs = search rules
 
-float-of-requires-2 : tie.Need-float-of-requires-2
-float-of-requires-2 c κs = search rules
+float_of-requires-2 : tie.Need-float_of-requires-2
+float_of-requires-2 c κs = search rules
 
-float-of-requires-3 : tie.Need-float-of-requires-3
-float-of-requires-3 c κs = search rules
+float_of-requires-3 : tie.Need-float_of-requires-3
+float_of-requires-3 c κs = search rules
 
-float-of-requires-4 : tie.Need-float-of-requires-4
-float-of-requires-4 c κs = search rules
+float_of-requires-4 : tie.Need-float_of-requires-4
+float_of-requires-4 c κs = search rules
 
-float-of-requires-5 : tie.Need-float-of-requires-5
-float-of-requires-5 c κs = search rules
+float_of-requires-5 : tie.Need-float_of-requires-5
+float_of-requires-5 c κs = search rules
 
-float-of-requires-6 : tie.Need-float-of-requires-6
-float-of-requires-6 c κs = search rules
+float_of-requires-6 : tie.Need-float_of-requires-6
+float_of-requires-6 c κs = search rules
 
 returns : tie.Need-returns
 returns c =
-    let a = c.before.before.before.before.before.before.before.before.before.before.before.before.before.before.before.args in
-    lent_is a.s.now a.at _ _ _ _ _ _ _ _ _ _ _ _ _ _ c.before.before.before.before.before.before.before.before.before.before.before.before.before.seven_at.ensures c.before.before.before.before.before.before.before.before.before.before.before.before.word_at.ensures c.before.before.before.before.before.before.before.before.before.before.before.word-at2.ensures c.before.before.before.before.before.before.before.before.before.before.word-at3.ensures c.before.before.before.before.before.before.before.before.before.word-at4.ensures c.before.before.before.before.before.before.before.before.word-at5.ensures c.before.before.before.before.before.before.before.word-at6.ensures c.before.before.before.before.before.before.blind-at.ensures c.before.before.before.before.before.float_of.ensures c.before.before.before.before.float-of2.ensures c.before.before.before.float-of3.ensures c.before.before.float-of4.ensures c.before.float-of5.ensures c.float-of6.ensures
+    let a = c.args in
+    lent_is a.s.now a.at _ _ _ _ _ _ _ _ _ _ _ _ _ _ c.seven_at.ensures c.word_at-x.ensures c.word_at-p.ensures c.word_at-a.ensures c.word_at-q.ensures c.word_at-h.ensures c.word_at-r.ensures c.blind_at-b.ensures c.float_of.ensures c.float_of-2.ensures c.float_of-3.ensures c.float_of-4.ensures c.float_of-5.ensures c.float_of-6.ensures
 
 pub lend_spec : {M : Type 1} → statement M
 lend_spec =
     tie.close
     (tie.spec
-    seven-at-requires
-    word-at-requires
-    word-at-requires-2
-    word-at-requires-3
-    word-at-requires-4
-    word-at-requires-5
-    word-at-requires-6
-    blind-at-requires
-    float-of-requires
-    float-of-requires-2
-    float-of-requires-3
-    float-of-requires-4
-    float-of-requires-5
-    float-of-requires-6
+    seven_at-requires
+    word_at-x-requires
+    word_at-p-requires
+    word_at-a-requires
+    word_at-q-requires
+    word_at-h-requires
+    word_at-r-requires
+    blind_at-b-requires
+    float_of-requires
+    float_of-requires-2
+    float_of-requires-3
+    float_of-requires-4
+    float_of-requires-5
+    float_of-requires-6
     returns)

@@ -5,53 +5,53 @@ use borrow.Author.Rules.{rules}
 use Rattle.replay_yarn.proofs.met.Statement.{statement}
 use Rattle.replay_yarn.proofs.met.Tie as tie
 
-answer-met-requires : tie.Need-answer-met-requires
-answer-met-requires c κs = search rules
+answer_met-o-requires : tie.Need-answer_met-o-requires
+answer_met-o-requires c κs = search rules
 
-seven-at-requires : tie.Need-seven-at-requires
-seven-at-requires c κs = search rules
+seven_at-requires : tie.Need-seven_at-requires
+seven_at-requires c κs = search rules
 
-float-met-requires : tie.Need-float-met-requires
-float-met-requires c κs = search rules
+float_met-x-requires : tie.Need-float_met-x-requires
+float_met-x-requires c κs = search rules
 
-float-met-requires-2 : tie.Need-float-met-requires-2
-float-met-requires-2 c κs = search rules
+float_met-p-requires : tie.Need-float_met-p-requires
+float_met-p-requires c κs = search rules
 
-float-met-requires-3 : tie.Need-float-met-requires-3
-float-met-requires-3 c κs = search rules
+float_met-a-requires : tie.Need-float_met-a-requires
+float_met-a-requires c κs = search rules
 
-float-met-requires-4 : tie.Need-float-met-requires-4
-float-met-requires-4 c κs = search rules
+float_met-q-requires : tie.Need-float_met-q-requires
+float_met-q-requires c κs = search rules
 
-float-met-requires-5 : tie.Need-float-met-requires-5
-float-met-requires-5 c κs = search rules
+float_met-h-requires : tie.Need-float_met-h-requires
+float_met-h-requires c κs = search rules
 
-float-met-requires-6 : tie.Need-float-met-requires-6
-float-met-requires-6 c κs = search rules
+float_met-r-requires : tie.Need-float_met-r-requires
+float_met-r-requires c κs = search rules
 
-cast-whole-met : tie.Need-overflow-cast-whole-met
-cast-whole-met c = record { fits = omega (arith, c.struct_known.given.1.1.1.1.1.1.0) }
+overflow_cast-yarn : tie.Need-overflow_cast-yarn
+overflow_cast-yarn c = record { fits = omega (arith, c.struct_known-1.given.1.1.1.1.1.1.0) }
 
-whole-met-requires : tie.Need-whole-met-requires
-whole-met-requires c κs = search rules
+whole_met-requires : tie.Need-whole_met-requires
+whole_met-requires c κs = search rules
 
 returns : tie.Need-returns
 returns c =
-    let a = c.before.before.before.before.before.before.before.before.before.before.before.args in
-    met_is a.s.now a.at a.v a.yarn _ _ _ _ _ _ _ _ _ c.before.before.before.before.before.before.before.before.before.answer-met.ensures c.before.before.before.before.before.before.before.before.seven_at.ensures c.before.before.before.before.before.before.before.float-met.ensures c.before.before.before.before.before.before.float-met2.ensures c.before.before.before.before.before.float-met3.ensures c.before.before.before.before.float-met4.ensures c.before.before.before.float-met5.ensures c.before.before.float-met6.ensures c.whole-met.ensures
+    let a = c.args in
+    met_is a.s.now a.at a.v a.yarn _ _ _ _ _ _ _ _ _ c.answer_met-o.ensures c.seven_at.ensures c.float_met-x.ensures c.float_met-p.ensures c.float_met-a.ensures c.float_met-q.ensures c.float_met-h.ensures c.float_met-r.ensures c.whole_met.ensures
 
-pub met-spec : {M : Type 1} → statement M
-met-spec =
+pub met_spec : {M : Type 1} → statement M
+met_spec =
     tie.close
     (tie.spec
-    answer-met-requires
-    seven-at-requires
-    float-met-requires
-    float-met-requires-2
-    float-met-requires-3
-    float-met-requires-4
-    float-met-requires-5
-    float-met-requires-6
-    cast-whole-met
-    whole-met-requires
+    answer_met-o-requires
+    seven_at-requires
+    float_met-x-requires
+    float_met-p-requires
+    float_met-a-requires
+    float_met-q-requires
+    float_met-h-requires
+    float_met-r-requires
+    overflow_cast-yarn
+    whole_met-requires
     returns)

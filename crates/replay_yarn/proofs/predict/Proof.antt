@@ -4,11 +4,11 @@ use borrow.Author.Rules.{rules}
 use Rattle.replay_yarn.proofs.predict.Statement.{statement}
 use Rattle.replay_yarn.proofs.predict.Tie as tie
 
-head-at-requires : tie.Need-head-at-requires
-head-at-requires c κs = search rules
+head_at-head-requires : tie.Need-head_at-head-requires
+head_at-head-requires c κs = search rules
 
-lend-requires : tie.Need-lend-requires
-lend-requires c κs = search rules
+lend-lent-requires : tie.Need-lend-lent-requires
+lend-lent-requires c κs = search rules
 
 predict-requires : tie.Need-predict-requires
 predict-requires c κs = search rules
@@ -18,9 +18,9 @@ met-requires c κs = search rules
 
 returns : tie.Need-returns
 returns c =
-    let a = c.before.before.before.before.before.before.args in
-    predict_is a.s.now a.at a.h _ _ _ _ c.before.before.before.before.head_at.ensures c.before.before.before.lend.ensures c.before.predict.ensures c.met.ensures
+    let a = c.args in
+    predict_is a.s.now a.at a.h _ _ _ _ c.head_at-head.ensures c.lend-lent.ensures c.predict.ensures c.met.ensures
 
-pub predict-spec : {M : Type 1} → statement M
-predict-spec =
-    tie.close (tie.spec head-at-requires lend-requires predict-requires met-requires returns)
+pub predict_spec : {M : Type 1} → statement M
+predict_spec =
+    tie.close (tie.spec head_at-head-requires lend-lent-requires predict-requires met-requires returns)

@@ -4,18 +4,18 @@ use borrow.Author.Rules.{rules}
 use Rattle.replay_yarn.proofs.seven_at.Statement.{statement}
 use Rattle.replay_yarn.proofs.seven_at.Tie as tie
 
-word-at-requires : tie.Need-word-at-requires
-word-at-requires c κs = search rules
+word_at-count-requires : tie.Need-word_at-count-requires
+word_at-count-requires c κs = search rules
 
-returns : tie.Need-returns
-returns c =
-    let a = c.before.before.before.before.args in
-    seven a.s.now a.at _ c.before.before.word_at.ensures c.if1.true
+returns-then-count-eq7 : tie.Need-returns-then-count-eq7
+returns-then-count-eq7 c =
+    let a = c.args in
+    seven a.s.now a.at _ c.word_at-count.ensures c.if-count-eq7.true
 
-returns-2 : tie.Need-returns-2
-returns-2 c =
-    let a = c.before.before.before.before.args in
-    no_seven a.s.now a.at _ c.before.before.word_at.ensures c.if1.false
+returns-else-count-eq7 : tie.Need-returns-else-count-eq7
+returns-else-count-eq7 c =
+    let a = c.args in
+    no_seven a.s.now a.at _ c.word_at-count.ensures c.if-count-eq7.false
 
-pub seven-at-spec : {M : Type 1} → statement M
-seven-at-spec = tie.close (tie.spec word-at-requires returns returns-2)
+pub seven_at_spec : {M : Type 1} → statement M
+seven_at_spec = tie.close (tie.spec word_at-count-requires returns-then-count-eq7 returns-else-count-eq7)

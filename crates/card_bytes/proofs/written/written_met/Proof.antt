@@ -11,10 +11,10 @@ number_met-refused-requires c κs = search rules
 slice_bounds-bytes_met-count : tie.Need-slice_bounds-bytes_met-count
 slice_bounds-bytes_met-count c = search rules
 
-slice-bounds-bytes-met-start : tie.Need-slice-bounds-bytes-met-start
+slice-bounds-bytes-met-start : tie.Need-slice_bounds-bytes_met-start
 slice-bounds-bytes-met-start c = search rules
 
-slice-bounds-bytes-met-end : tie.Need-slice-bounds-bytes-met-end
+slice-bounds-bytes-met-end : tie.Need-slice_bounds-bytes_met-end
 slice-bounds-bytes-met-end c = search rules
 
 bytes_met-requires : tie.Need-bytes_met-requires

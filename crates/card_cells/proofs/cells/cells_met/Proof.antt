@@ -2,7 +2,7 @@
 -- Assumes nothing.
 use mathlib.Core.Logic.{⊎_elim}
 use native.Mathlib.Omega.{arith}
-use borrow.Author.Tests.{ltb-true, ltb-false}
+use borrow.Author.Tests.{ltb-false}
 use Rattle.card_cells.proofs.Comparing.{too_long, too_few, all_of_them}
 use borrow.Author.Rules.{rules}
 use Rattle.card_cells.proofs.cells.cells_met.Statement.{statement}
@@ -13,8 +13,8 @@ returns-then-len-gt272 c =
     let a = c.args in
     ⊎_elim
     (λ w. too_long a.s.now a.o a.buffer a.k a.cells.now a.len (omega arith))
-    (λ w. too_few a.s.now a.o a.buffer a.k a.cells.now a.len (ltb-true _ _ w.1.taken))
-    c.then-len-gt272.branch
+    (λ w. too_few a.s.now a.o a.buffer a.k a.cells.now a.len (omega arith))
+    c.then-len-gt272.either
 
 all_met-requires : tie.Need-all_met-requires
 all_met-requires c κs = search rules

@@ -9,17 +9,17 @@ use Rattle.card_list.proofs.compare.times.Tie as tie
 few : (m n : ℕ) → m ≤ 16 → n ≤ 16 → m * n ≤ 256
 few m n a b = mul-le-mul a b
 
+returns-then-rows-gt16 : tie.Need-returns-then-rows-gt16
+returns-then-rows-gt16 c = search rules
+
+overflow_mul-result : tie.Need-overflow_mul-result
+overflow_mul-result c = omega (arith, few c.args.rows c.args.cols (search rules) (search rules))
+
+overflow_cast-result : tie.Need-overflow_cast-result
+overflow_cast-result c = omega (arith, few c.args.rows c.args.cols (search rules) (search rules))
+
 returns : tie.Need-returns
 returns c = search rules
 
-mul-result : tie.Need-overflow-mul-result
-mul-result c = omega (arith, few c.before.before.args.rows c.before.before.args.cols (search rules) (search rules))
-
-cast-result : tie.Need-overflow-cast-result
-cast-result c = omega (arith, few c.before.before.args.rows c.before.before.args.cols (search rules) (search rules))
-
-returns-2 : tie.Need-returns-2
-returns-2 c = search rules
-
-pub times-spec : {M : Type 1} → statement M
-times-spec = tie.close (tie.spec returns mul-result cast-result returns-2)
+pub times_spec : {M : Type 1} → statement M
+times_spec = tie.close (tie.spec returns-then-rows-gt16 overflow_mul-result overflow_cast-result returns)

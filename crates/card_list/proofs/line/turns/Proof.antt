@@ -6,51 +6,51 @@ use borrow.Author.Rules.{rules}
 use Rattle.card_list.proofs.line.turns.Statement.{statement}
 use Rattle.card_list.proofs.line.turns.Tie as tie
 
-abbrev invariant-loop : tie.invariant-loop
+abbrev invariant-loop : tie.invariant-loop-byte
 invariant-loop s e own card₀ l f₀ end byte₀ card f byte = length card ≡ length card₀
 
-abbrev decreases-loop : tie.decreases-loop
+abbrev decreases-loop : tie.decreases-loop-byte
 decreases-loop s e own card₀ l f₀ end byte₀ card f byte = end - byte
 
-nothing-requires : tie.Need-nothing-requires invariant-loop decreases-loop
-nothing-requires c κs = search rules
+nothing-f-requires : tie.Need-nothing-f-requires invariant-loop decreases-loop
+nothing-f-requires c κs = search rules
 
-end-of-requires : tie.Need-end-of-requires invariant-loop decreases-loop
-end-of-requires c κs = search rules
+end_of-end-requires : tie.Need-end_of-end-requires invariant-loop decreases-loop
+end_of-end-requires c κs = search rules
 
-loop-holds : tie.Need-loop-init invariant-loop decreases-loop
-loop-holds c = search rules
+loop-byte-init : tie.Need-loop-byte-init invariant-loop decreases-loop
+loop-byte-init c = search rules
 
-turn-requires : tie.Need-turn-requires invariant-loop decreases-loop
-turn-requires c κs = search rules
+turn-f-requires : tie.Need-turn-f-requires invariant-loop decreases-loop
+turn-f-requires c κs = search rules
 
-add-byte : tie.Need-overflow-add-byte invariant-loop decreases-loop
-add-byte c = search rules
+overflow_add-byte : tie.Need-overflow_add-byte invariant-loop decreases-loop
+overflow_add-byte c = search rules
 
-loop-less : tie.Need-loop-smaller invariant-loop decreases-loop
-loop-less c = search rules
+loop-byte-smaller : tie.Need-loop-byte-smaller invariant-loop decreases-loop
+loop-byte-smaller c = search rules
 
-loop-again : tie.Need-loop-preserved invariant-loop decreases-loop
-loop-again c = search rules
+loop-byte-preserved : tie.Need-loop-byte-preserved invariant-loop decreases-loop
+loop-byte-preserved c = search rules
 
-same_length : tie.Need-same-length invariant-loop decreases-loop
-same_length c = search rules
+shape_of-card : tie.Need-shape_of-card invariant-loop decreases-loop
+shape_of-card c = search rules
 
 returns : tie.Need-returns invariant-loop decreases-loop
 returns c = search rules
 
-pub turns-spec : {M : Type 1} → statement M
-turns-spec =
+pub turns_spec : {M : Type 1} → statement M
+turns_spec =
     tie.close
     (tie.spec
     invariant-loop
     decreases-loop
-    nothing-requires
-    end-of-requires
-    loop-holds
-    turn-requires
-    add-byte
-    loop-less
-    loop-again
-    same_length
+    nothing-f-requires
+    end_of-end-requires
+    loop-byte-init
+    turn-f-requires
+    overflow_add-byte
+    loop-byte-smaller
+    loop-byte-preserved
+    shape_of-card
     returns)

@@ -36,7 +36,7 @@ returns-then-n-lt10 : tie.Need-returns-then-n-lt10
 returns-then-n-lt10 c =
     let a = c.args in
     let b = c.put_bytes-p in
-    (one-behind a.key.now a.at b.result a.n b.ensures.0 c.if-n-lt10.true, one_put a.key.now a.at b.result a.n b.ensures.0 c.if-n-lt10.true a.into.now b.new.0 b.ensures.1)
+    (one-behind a.key.now a.at b.result a.n b.ensures.0 c.if-n-lt10.true, one_put a.key.now a.at b.result a.n b.ensures.0 c.if-n-lt10.true a.into.now b.new.into b.ensures.1)
 
 overflow_add-into-2 : tie.Need-overflow_add-into-2
 overflow_add-into-2 c = search rules
@@ -79,7 +79,7 @@ returns : tie.Need-returns
 returns c =
     let a = c.args in
     let b = c.put_bytes-p in
-    (two-behind a.key.now a.at b.result a.n b.ensures.0 c.if-n-lt10.false, two_put a.key.now a.at b.result a.n b.ensures.0 c.if-n-lt10.false a.into.now b.new.0 b.ensures.1)
+    (two-behind a.key.now a.at b.result a.n b.ensures.0 c.if-n-lt10.false, two_put a.key.now a.at b.result a.n b.ensures.0 c.if-n-lt10.false a.into.now b.new.into b.ensures.1)
 
 pub put_count_line_spec : {M : Type 1} → statement M
 put_count_line_spec =

@@ -19,7 +19,7 @@ returns c =
     let a = c.args in
     let b = c.put_bytes-p in
     let r = c.put_entries in
-    (omega (arith, r.ensures.0, b.ensures.0), then_text a.into.now b.new.0 a.at b.result a.key.now b.ensures.1 b.ensures.0 r.new.0 _ r.ensures.1)
+    (omega (arith, r.ensures.0, b.ensures.0), then_text a.into.now b.new.into a.at b.result a.key.now b.ensures.1 b.ensures.0 r.new.into _ r.ensures.1)
 
 pub put_entries_line_spec : {M : Type 1} → statement M
 put_entries_line_spec =

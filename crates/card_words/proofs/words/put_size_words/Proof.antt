@@ -6,41 +6,33 @@ use Rattle.card_words.proofs.Wording.{put, other_size}
 use Rattle.card_words.proofs.words.put_size_words.Statement.{statement}
 use Rattle.card_words.proofs.words.put_size_words.Tie as tie
 
-slice-aggregate-put-bytes : tie.Need-slice-aggregate-put-bytes
-slice-aggregate-put-bytes c = search rules
+put_bytes-requires : tie.Need-put_bytes-requires
+put_bytes-requires c κs = search rules
 
-put-bytes-requires : tie.Need-put-bytes-requires
-put-bytes-requires c κs = search rules
+put_bytes-requires-else-k-eq0 : tie.Need-put_bytes-requires-else-k-eq0
+put_bytes-requires-else-k-eq0 c κs = search rules
 
-slice-aggregate-put-bytes-2 : tie.Need-slice-aggregate-put-bytes-2
-slice-aggregate-put-bytes-2 c = search rules
+shape_of-out-then-k-eq0 : tie.Need-shape_of-out-then-k-eq0
+shape_of-out-then-k-eq0 c = search rules
 
-put-bytes-requires-2 : tie.Need-put-bytes-requires-2
-put-bytes-requires-2 c κs = search rules
-
-same_length : tie.Need-same-length
-same_length c = search rules
-
-returns : tie.Need-returns
+returns-then-k-eq0 : tie.Need-returns-then-k-eq0
 unfolding size_words bytes_of
-returns c = put _ _ _ _ _ (ap size_words (sym c.before.before.before.before.before.if1.true)) c.before.before.put-bytes.ensures.0 c.before.before.put-bytes.ensures.1
+returns-then-k-eq0 c = put _ _ _ _ _ (ap size_words (sym c.if-k-eq0.true)) c.put_bytes.ensures.0 c.put_bytes.ensures.1
 
-same-length-2 : tie.Need-same-length-2
-same-length-2 c = search rules
+shape_of-out-else-k-eq0 : tie.Need-shape_of-out-else-k-eq0
+shape_of-out-else-k-eq0 c = search rules
 
-returns-2 : tie.Need-returns-2
+returns-else-k-eq0 : tie.Need-returns-else-k-eq0
 unfolding size_words bytes_of
-returns-2 c = put _ _ _ _ _ (sym (other_size _ c.before.before.before.before.before.if1.false)) c.before.before.put-bytes2.ensures.0 c.before.before.put-bytes2.ensures.1
+returns-else-k-eq0 c = put _ _ _ _ _ (sym (other_size _ c.if-k-eq0.false)) c.put_bytes-else-k-eq0.ensures.0 c.put_bytes-else-k-eq0.ensures.1
 
-pub put-size-words-spec : {M : Type 1} → statement M
-put-size-words-spec =
+pub put_size_words_spec : {M : Type 1} → statement M
+put_size_words_spec =
     tie.close
     (tie.spec
-    slice-aggregate-put-bytes
-    put-bytes-requires
-    slice-aggregate-put-bytes-2
-    put-bytes-requires-2
-    same_length
-    returns
-    same-length-2
-    returns-2)
+    put_bytes-requires
+    put_bytes-requires-else-k-eq0
+    shape_of-out-then-k-eq0
+    returns-then-k-eq0
+    shape_of-out-else-k-eq0
+    returns-else-k-eq0)

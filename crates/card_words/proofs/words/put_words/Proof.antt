@@ -7,66 +7,62 @@ use Rattle.card_words.proofs.Wording.{told, put, no_words}
 use Rattle.card_words.proofs.words.put_words.Statement.{statement}
 use Rattle.card_words.proofs.words.put_words.Tie as tie
 
-enum-known-v : tie.Need-enum-known-v
-enum-known-v c = search rules
+enum_known-v : tie.Need-enum_known-v
+enum_known-v c = search rules
 
-put-line-words-requires : tie.Need-put-line-words-requires
-put-line-words-requires c κs = search rules
+put_line_words-requires : tie.Need-put_line_words-requires
+put_line_words-requires c κs = search rules
 
-enum_told : tie.Need-enum-told
-enum_told c = search rules
+enum_told-1 : tie.Need-enum_told-1
+enum_told-1 c = search rules
 
-slice-aggregate-put-bytes : tie.Need-slice-aggregate-put-bytes
-slice-aggregate-put-bytes c = search rules
+put_bytes-requires : tie.Need-put_bytes-requires
+put_bytes-requires c κs = search rules
 
-put-bytes-requires : tie.Need-put-bytes-requires
-put-bytes-requires c κs = search rules
+enum_known-v-in-Size-1 : tie.Need-enum_known-v-in-Size-1
+enum_known-v-in-Size-1 c = search rules
 
-enum-known-v-2 : tie.Need-enum-known-v-2
-enum-known-v-2 c = search rules
+put_size_words-requires : tie.Need-put_size_words-requires
+put_size_words-requires c κs = search rules
 
-put-size-words-requires : tie.Need-put-size-words-requires
-put-size-words-requires c κs = search rules
+shape_of-out-in-Line : tie.Need-shape_of-out-in-Line
+shape_of-out-in-Line c = search rules
 
-same_length : tie.Need-same-length
-same_length c = search rules
-
-returns : tie.Need-returns
+returns-in-Line : tie.Need-returns-in-Line
 unfolding words_of
-returns c = told _ _ _ _ _ (ap words_of (sym c.before.before.before.before.before.v.given.1)) c.before.before.put-line-words.ensures.0 c.before.before.put-line-words.ensures.1
+returns-in-Line c = told _ _ _ _ _ (ap words_of (sym c.in-Line.is)) c.put_line_words.ensures.0 c.put_line_words.ensures.1
 
-same-length-2 : tie.Need-same-length-2
-same-length-2 c = search rules
+shape_of-out-in-Edition : tie.Need-shape_of-out-in-Edition
+shape_of-out-in-Edition c = search rules
 
-returns-2 : tie.Need-returns-2
+returns-in-Edition : tie.Need-returns-in-Edition
 unfolding words_of bytes_of
-returns-2 c = put _ _ _ _ _ (ap words_of (sym c.before.before.before.before.before.enum_told.given.1)) c.before.before.put-bytes.ensures.0 c.before.before.put-bytes.ensures.1
+returns-in-Edition c = put _ _ _ _ _ (ap words_of (sym c.in-Edition.is)) c.put_bytes.ensures.0 c.put_bytes.ensures.1
 
-same-length-3 : tie.Need-same-length-3
-same-length-3 c = search rules
+shape_of-out-in-Size : tie.Need-shape_of-out-in-Size
+shape_of-out-in-Size c = search rules
 
-returns-3 : tie.Need-returns-3
+returns-in-Size : tie.Need-returns-in-Size
 unfolding words_of
-returns-3 c = told _ _ _ _ _ (ap words_of (sym c.before.before.before.before.before.v2.given.1)) c.before.before.put-size-words.ensures.0 c.before.before.put-size-words.ensures.1
+returns-in-Size c = told _ _ _ _ _ (ap words_of (sym c.in-Size.is)) c.put_size_words.ensures.0 c.put_size_words.ensures.1
 
-returns-4 : tie.Need-returns-4
-returns-4 c = told [] _ _ _ 0 (sym (no_words _ c.match.keys4)) refl refl
+returns-in_default : tie.Need-returns-in_default
+returns-in_default c = told [] _ _ _ 0 (sym (no_words _ c.in_default.in_default-own.keys4)) refl refl
 
-pub put-words-spec : {M : Type 1} → statement M
-put-words-spec =
+pub put_words_spec : {M : Type 1} → statement M
+put_words_spec =
     tie.close
     (tie.spec
-    enum-known-v
-    put-line-words-requires
-    enum_told
-    slice-aggregate-put-bytes
-    put-bytes-requires
-    enum-known-v-2
-    put-size-words-requires
-    same_length
-    returns
-    same-length-2
-    returns-2
-    same-length-3
-    returns-3
-    returns-4)
+    enum_known-v
+    put_line_words-requires
+    enum_told-1
+    put_bytes-requires
+    enum_known-v-in-Size-1
+    put_size_words-requires
+    shape_of-out-in-Line
+    returns-in-Line
+    shape_of-out-in-Edition
+    returns-in-Edition
+    shape_of-out-in-Size
+    returns-in-Size
+    returns-in_default)

@@ -15,121 +15,113 @@ use Rattle.cards.proofs.matrices.fill_all.Statement.{statement}
 use Rattle.cards.proofs.matrices.fill_all.Tie as tie
 
 -- line 5 begins where A's entries end
-here_q : (c : tie.After-fill) → Here c.before.before.before.before.before.before.before.args.s.now c.fill.result 4
+here_q : (c : tie.After-fill-at_q) → Here c.args.s.now c.fill-at_q.result 4
 unfolding ends
-here_q c = let e = c.before.before.before.before.before.before.before in behind_here e.args.s.now e.args.at 3 e.requires.0 8 (e.args.n * e.args.n) a_key refl e.requires.1.a c.fill.result c.fill.ensures.0
+here_q c = behind_here c.args.s.now c.args.at 3 c.requires.0 8 (c.args.n * c.args.n) a_key refl c.requires.1.a c.fill-at_q.result c.fill-at_q.ensures.0
 
 -- line 6 begins where Q's entries end
-here_h : (c : tie.After-fill2) → Here c.before.before.before.before.before.before.before.before.before.before.before.args.s.now c.fill2.result 5
+here_h : (c : tie.After-fill-at_h) → Here c.args.s.now c.fill-at_h.result 5
 unfolding ends
-here_h c = let e = c.before.before.before.before.before.before.before.before.before.before.before in behind_here e.args.s.now _ 4 (here_q c.before.before.before.before) 8 (e.args.n * e.args.n) q_key refl e.requires.1.q c.fill2.result c.fill2.ensures.0
+here_h c = behind_here c.args.s.now _ 4 (here_q c.before.before.before.before) 8 (c.args.n * c.args.n) q_key refl c.requires.1.q c.fill-at_h.result c.fill-at_h.ensures.0
 
 -- line 7 begins where H's entries end
-here_r : (c : tie.After-fill3) → Here c.before.before.before.before.before.before.before.before.before.before.before.before.before.before.before.args.s.now c.fill3.result 6
+here_r : (c : tie.After-fill-at_r) → Here c.args.s.now c.fill-at_r.result 6
 unfolding ends
-here_r c = let e = c.before.before.before.before.before.before.before.before.before.before.before.before.before.before.before in behind_here e.args.s.now _ 5 (here_h c.before.before.before.before) 8 (e.args.m * e.args.n) h_key refl e.requires.1.h c.fill3.result c.fill3.ensures.0
+here_r c = behind_here c.args.s.now _ 5 (here_h c.before.before.before.before) 8 (c.args.m * c.args.n) h_key refl c.requires.1.h c.fill-at_r.result c.fill-at_r.ensures.0
 
-add-fill : tie.Need-overflow-add-fill
-add-fill c = search rules
+overflow_add-at : tie.Need-overflow_add-at
+overflow_add-at c = search rules
 
-mul-fill : tie.Need-overflow-mul-fill
-mul-fill c = search rules
+overflow_mul-n : tie.Need-overflow_mul-n
+overflow_mul-n c = search rules
+
+fill-at_q-requires : tie.Need-fill-at_q-requires
+unfolding ends
+fill-at_q-requires c κs =
+    (key_within c.args.s.now c.args.at 3 c.requires.0 8 (c.args.n * c.args.n) a_key refl c.requires.1.a, fields_here c.args.s.now c.args.at 3 c.requires.0 8 (c.args.n * c.args.n) a_key refl c.requires.1.a, c.requires.2)
+
+overflow_add-at_q : tie.Need-overflow_add-at_q
+unfolding ends
+overflow_add-at_q c =
+    omega (arith, key_within c.args.s.now _ 4 (here_q c.before.before) 8 (c.args.n * c.args.n) q_key refl c.requires.1.q)
+
+overflow_mul-n-2 : tie.Need-overflow_mul-n-2
+overflow_mul-n-2 c = search rules
+
+fill-at_h-requires : tie.Need-fill-at_h-requires
+unfolding ends
+fill-at_h-requires c κs =
+    (key_within c.args.s.now _ 4 (here_q c.before.before.before) 8 (c.args.n * c.args.n) q_key refl c.requires.1.q, fields_here c.args.s.now _ 4 (here_q c.before.before.before) 8 (c.args.n * c.args.n) q_key refl c.requires.1.q, c.requires.3)
+
+overflow_add-at_h : tie.Need-overflow_add-at_h
+unfolding ends
+overflow_add-at_h c =
+    omega (arith, key_within c.args.s.now _ 5 (here_h c.before.before) 8 (c.args.m * c.args.n) h_key refl c.requires.1.h)
+
+overflow_mul-m : tie.Need-overflow_mul-m
+overflow_mul-m c = search rules
+
+fill-at_r-requires : tie.Need-fill-at_r-requires
+unfolding ends
+fill-at_r-requires c κs =
+    (key_within c.args.s.now _ 5 (here_h c.before.before.before) 8 (c.args.m * c.args.n) h_key refl c.requires.1.h, fields_here c.args.s.now _ 5 (here_h c.before.before.before) 8 (c.args.m * c.args.n) h_key refl c.requires.1.h, c.requires.4)
+
+overflow_add-at_r : tie.Need-overflow_add-at_r
+unfolding ends
+overflow_add-at_r c =
+    omega (arith, key_within c.args.s.now _ 6 (here_r c.before.before) 8 (c.args.m * c.args.m) r_key refl c.requires.1.r)
+
+overflow_mul-m-2 : tie.Need-overflow_mul-m-2
+overflow_mul-m-2 c = search rules
 
 fill-requires : tie.Need-fill-requires
 unfolding ends
 fill-requires c κs =
-    let e = c.before.before.before.before.before.before in
-    (key_within e.args.s.now e.args.at 3 e.requires.0 8 (e.args.n * e.args.n) a_key refl e.requires.1.a, fields_here e.args.s.now e.args.at 3 e.requires.0 8 (e.args.n * e.args.n) a_key refl e.requires.1.a, e.requires.2)
+    (key_within c.args.s.now _ 6 (here_r c.before.before.before) 8 (c.args.m * c.args.m) r_key refl c.requires.1.r, fields_here c.args.s.now _ 6 (here_r c.before.before.before) 8 (c.args.m * c.args.m) r_key refl c.requires.1.r, c.requires.5)
 
-add-fill-2 : tie.Need-overflow-add-fill-2
-unfolding ends
-add-fill-2 c =
-    let e = c.before.before.before.before.before.before.before.before.before in
-    omega (arith, key_within e.args.s.now _ 4 (here_q c.before.before) 8 (e.args.n * e.args.n) q_key refl e.requires.1.q)
+shape_of-a : tie.Need-shape_of-a
+shape_of-a c = search rules
 
-mul-fill-2 : tie.Need-overflow-mul-fill-2
-mul-fill-2 c = search rules
+shape_of-q : tie.Need-shape_of-q
+shape_of-q c = search rules
 
-fill-requires-2 : tie.Need-fill-requires-2
-unfolding ends
-fill-requires-2 c κs =
-    let e = c.before.before.before.before.before.before.before.before.before.before in
-    (key_within e.args.s.now _ 4 (here_q c.before.before.before) 8 (e.args.n * e.args.n) q_key refl e.requires.1.q, fields_here e.args.s.now _ 4 (here_q c.before.before.before) 8 (e.args.n * e.args.n) q_key refl e.requires.1.q, e.requires.3)
+shape_of-h : tie.Need-shape_of-h
+shape_of-h c = search rules
 
-add-fill-3 : tie.Need-overflow-add-fill-3
-unfolding ends
-add-fill-3 c =
-    let e = c.before.before.before.before.before.before.before.before.before.before.before.before.before in
-    omega (arith, key_within e.args.s.now _ 5 (here_h c.before.before) 8 (e.args.m * e.args.n) h_key refl e.requires.1.h)
-
-mul-fill-3 : tie.Need-overflow-mul-fill-3
-mul-fill-3 c = search rules
-
-fill-requires-3 : tie.Need-fill-requires-3
-unfolding ends
-fill-requires-3 c κs =
-    let e = c.before.before.before.before.before.before.before.before.before.before.before.before.before.before in
-    (key_within e.args.s.now _ 5 (here_h c.before.before.before) 8 (e.args.m * e.args.n) h_key refl e.requires.1.h, fields_here e.args.s.now _ 5 (here_h c.before.before.before) 8 (e.args.m * e.args.n) h_key refl e.requires.1.h, e.requires.4)
-
-add-fill-4 : tie.Need-overflow-add-fill-4
-unfolding ends
-add-fill-4 c =
-    let e = c.before.before.before.before.before.before.before.before.before.before.before.before.before.before.before.before.before in
-    omega (arith, key_within e.args.s.now _ 6 (here_r c.before.before) 8 (e.args.m * e.args.m) r_key refl e.requires.1.r)
-
-mul-fill-4 : tie.Need-overflow-mul-fill-4
-mul-fill-4 c = search rules
-
-fill-requires-4 : tie.Need-fill-requires-4
-unfolding ends
-fill-requires-4 c κs =
-    let e = c.before.before.before.before.before.before.before.before.before.before.before.before.before.before.before.before.before.before in
-    (key_within e.args.s.now _ 6 (here_r c.before.before.before) 8 (e.args.m * e.args.m) r_key refl e.requires.1.r, fields_here e.args.s.now _ 6 (here_r c.before.before.before) 8 (e.args.m * e.args.m) r_key refl e.requires.1.r, e.requires.5)
-
-same_length : tie.Need-same-length
-same_length c = search rules
-
-same-length-2 : tie.Need-same-length-2
-same-length-2 c = search rules
-
-same-length-3 : tie.Need-same-length-3
-same-length-3 c = search rules
-
-same-length-4 : tie.Need-same-length-4
-same-length-4 c = search rules
+shape_of-r : tie.Need-shape_of-r
+shape_of-r c = search rules
 
 returns : tie.Need-returns
 unfolding ends
-returns c =
-    let e = c.before.before.before.before.before.before.before.before.before.before.before.before.before.before.before.before.before.before.before.before.before in (
-      c.before.before.before.before.before.before.before.before.before.before.before.before.before.before.fill.ensures.1 ∙ ap (λ (es : List ℕ). run 0 (e.args.n * e.args.n) (floats binary32 es) e.args.a.now) (says_here e.args.s.now e.args.at 3 e.requires.0 8 (e.args.n * e.args.n) a_key refl e.requires.1.a),
-      (
-        c.before.before.before.before.before.before.before.before.before.before.fill2.ensures.1 ∙ ap (λ (es : List ℕ). run 0 (e.args.n * e.args.n) (floats binary32 es) e.args.q.now) (says_here e.args.s.now _ 4 (here_q c.before.before.before.before.before.before.before.before.before.before.before.before.before.before) 8 (e.args.n * e.args.n) q_key refl e.requires.1.q),
-        (
-          c.before.before.before.before.before.before.fill3.ensures.1 ∙ ap (λ (es : List ℕ). run 0 (e.args.m * e.args.n) (floats binary32 es) e.args.h.now) (says_here e.args.s.now _ 5 (here_h c.before.before.before.before.before.before.before.before.before.before) 8 (e.args.m * e.args.n) h_key refl e.requires.1.h),
-          c.before.before.fill4.ensures.1 ∙ ap (λ (es : List ℕ). run 0 (e.args.m * e.args.m) (floats binary32 es) e.args.r.now) (says_here e.args.s.now _ 6 (here_r c.before.before.before.before.before.before) 8 (e.args.m * e.args.m) r_key refl e.requires.1.r),
-        ),
-      ),
-    )
+returns c = (
+  c.fill-at_q.ensures.1 ∙ ap (λ (es : List ℕ). run 0 (c.args.n * c.args.n) (floats binary32 es) c.args.a.now) (says_here c.args.s.now c.args.at 3 c.requires.0 8 (c.args.n * c.args.n) a_key refl c.requires.1.a),
+  (
+    c.fill-at_h.ensures.1 ∙ ap (λ (es : List ℕ). run 0 (c.args.n * c.args.n) (floats binary32 es) c.args.q.now) (says_here c.args.s.now _ 4 (here_q c.before.before.before.before.before.before.before.before.before.before.before.before.before.before) 8 (c.args.n * c.args.n) q_key refl c.requires.1.q),
+    (
+      c.fill-at_r.ensures.1 ∙ ap (λ (es : List ℕ). run 0 (c.args.m * c.args.n) (floats binary32 es) c.args.h.now) (says_here c.args.s.now _ 5 (here_h c.before.before.before.before.before.before.before.before.before.before) 8 (c.args.m * c.args.n) h_key refl c.requires.1.h),
+      c.fill.ensures.1 ∙ ap (λ (es : List ℕ). run 0 (c.args.m * c.args.m) (floats binary32 es) c.args.r.now) (says_here c.args.s.now _ 6 (here_r c.before.before.before.before.before.before) 8 (c.args.m * c.args.m) r_key refl c.requires.1.r),
+    ),
+  ),
+)
 
-pub fill-all-spec : {M : Type 1} → statement M
-fill-all-spec =
+pub fill_all_spec : {M : Type 1} → statement M
+fill_all_spec =
     tie.close
     (tie.spec
-    add-fill
-    mul-fill
+    overflow_add-at
+    overflow_mul-n
+    fill-at_q-requires
+    overflow_add-at_q
+    overflow_mul-n-2
+    fill-at_h-requires
+    overflow_add-at_h
+    overflow_mul-m
+    fill-at_r-requires
+    overflow_add-at_r
+    overflow_mul-m-2
     fill-requires
-    add-fill-2
-    mul-fill-2
-    fill-requires-2
-    add-fill-3
-    mul-fill-3
-    fill-requires-3
-    add-fill-4
-    mul-fill-4
-    fill-requires-4
-    same_length
-    same-length-2
-    same-length-3
-    same-length-4
+    shape_of-a
+    shape_of-q
+    shape_of-h
+    shape_of-r
     returns)

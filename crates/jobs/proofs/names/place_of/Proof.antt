@@ -20,10 +20,10 @@ line_end-end-requires c κs = search rules
 slice_bounds-is-count : tie.Need-slice_bounds-is-count invariant-loop decreases-loop
 slice_bounds-is-count c = search rules
 
-slice-bounds-is-start : tie.Need-slice-bounds-is-start invariant-loop decreases-loop
+slice-bounds-is-start : tie.Need-slice_bounds-is-start invariant-loop decreases-loop
 slice-bounds-is-start c = search rules
 
-slice-bounds-is-end : tie.Need-slice-bounds-is-end invariant-loop decreases-loop
+slice-bounds-is-end : tie.Need-slice_bounds-is-end invariant-loop decreases-loop
 slice-bounds-is-end c = search rules
 
 is-requires : tie.Need-is-requires invariant-loop decreases-loop

@@ -1,7 +1,6 @@
 -- `OneState::correct` meets its contract, by the cases of its pivot and of the test of the new x and p: d is the reciprocal of S's root, for that is what an accepted pivot carries (`proofs/Cases.antt`).
 -- Assumes nothing.
 use mathlib.Core.Path.{sym, ap, ◌∙◌}
-use mathlib.Core.Logic.{⊎_elim}
 use borrow.Author.Rules.{rules}
 use lib.Ieee.{binary32, of_bits}
 use Rattle.answers.specs.declared.Answer.TheVariants.{Pivot, NotFinite}
@@ -46,7 +45,7 @@ returns-else-is_finite c =
     let step = sym c.pivot_of.ensures ∙ c.in-Accepted.is in
     ap (λ (s : OneState). Refused s NotFinite) c.blinded.ensures
     ∙ elim c.else-is_finite.branch [
-      else-is_finite-via-then-is_finite+else-is_finite-2 w ↦ comes_back_p m.self m.z _ _ step _ _ c.is_finite.ensures w.is_finite-then-is_finite.ensures w.if-is_finite.true w.if-is_finite-2.false
+      | else-is_finite-via-then-is_finite+else-is_finite-2 w ↦ comes_back_p m.self m.z _ _ step _ _ c.is_finite.ensures w.is_finite-then-is_finite.ensures w.if-is_finite.true w.if-is_finite-2.false
       | else-is_finite-via-else-is_finite w ↦ comes_back_x m.self m.z _ _ step _ c.is_finite.ensures w.if-is_finite.false
     ]
 
