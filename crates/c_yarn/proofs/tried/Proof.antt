@@ -8,32 +8,32 @@ use Rattle.c_yarn.proofs.tried.Tie as tie
 correct-requires : tie.Need-correct-requires
 correct-requires c κs = search rules
 
-enum-known-renewed : tie.Need-enum-known-renewed
-enum-known-renewed c = search rules
+enum_known-renewed : tie.Need-enum_known-renewed
+enum_known-renewed c = search rules
 
-code-of-requires : tie.Need-code-of-requires
-code-of-requires c κs = search rules
+code_of-requires : tie.Need-code_of-requires
+code_of-requires c κs = search rules
 
-enum-known-blinded : tie.Need-enum-known-blinded
-enum-known-blinded c = search rules
+enum_known-blinded : tie.Need-enum_known-blinded
+enum_known-blinded c = search rules
 
-code-of-requires-2 : tie.Need-code-of-requires-2
-code-of-requires-2 c κs = search rules
+code_of-requires-in-Refused : tie.Need-code_of-requires-in-Refused
+code_of-requires-in-Refused c κs = search rules
 
-returns : tie.Need-returns
-returns c = accepted _ _ _ _ (sym c.before.before.before.before.correct.ensures ∙ c.before.before.renewed.given.1) c.code_of.ensures
+returns-in-Accepted : tie.Need-returns-in-Accepted
+returns-in-Accepted c = accepted _ _ _ _ (sym c.correct.ensures ∙ c.in-Accepted.is) c.code_of.ensures
 
-returns-2 : tie.Need-returns-2
-returns-2 c = refused _ _ _ _ _ (sym c.before.before.before.before.correct.ensures ∙ c.before.before.blinded.given.1) c.code-of2.ensures
+returns-in-Refused : tie.Need-returns-in-Refused
+returns-in-Refused c = refused _ _ _ _ _ (sym c.correct.ensures ∙ c.in-Refused.is) c.code_of-in-Refused.ensures
 
-pub tried-spec : {M : Type 1} → statement M
-tried-spec =
+pub tried_spec : {M : Type 1} → statement M
+tried_spec =
     tie.close
     (tie.spec
     correct-requires
-    enum-known-renewed
-    code-of-requires
-    enum-known-blinded
-    code-of-requires-2
-    returns
-    returns-2)
+    enum_known-renewed
+    code_of-requires
+    enum_known-blinded
+    code_of-requires-in-Refused
+    returns-in-Accepted
+    returns-in-Refused)

@@ -8,48 +8,38 @@ use Rattle.residuals.proofs.Steps.{residual-taken}
 use Rattle.residuals.proofs.residual_cells.Statement.{statement}
 use Rattle.residuals.proofs.residual_cells.Tie as tie
 
-returns : tie.Need-returns
-returns c =
-    let t = c.before.before.before in
-    let h = t.before.before.before.before.before in
-    let start = h.before.before.before.before.before.before.before.before in
-    let a = start.args in
-    let q = t.factor-cells.ensures.0 c.if1.true in
-    let k = residual-taken binary32 a.n a.m a.p.now a.h.now a.r.now a.temp-hp.now a.s.now _ start.requires.5 h.mult-cells.ensures q.0 q.1 in
-    (k.0, (h.mult-cells.ensures, k.1))
+returns-then-m-i : tie.Need-returns-then-m-i
+returns-then-m-i c =
+    let a = c.args in
+    let q = c.factor_cells-i.ensures.0 c.if-m-i.true in
+    let k = residual-taken binary32 a.n a.m a.p.now a.h.now a.r.now a.temp_hp.now a.s.now _ c.requires.5 c.mult_cells.ensures q.0 q.1 in
+    (k.0, (c.mult_cells.ensures, k.1))
 
-whole-cells-requires : tie.Need-whole-cells-requires
-whole-cells-requires c κs =
-    let t = c.before.before.before.before.before in
-    let h = t.before.before.before.before.before in
-    let start = h.before.before.before.before.before.before.before.before in
-    let g = start.requires in
+whole_cells-requires : tie.Need-whole_cells-requires
+whole_cells-requires c κs =
+    let g = c.requires in
     (search rules, g.2, g.9, g.3, search rules, g.7, g.8, g.6, g.10)
 
-returns-2 : tie.Need-returns-2
-returns-2 c =
-    let d = c.before.before.decompose-cells.ensures in
-    let w = c.before.before.before.before.before.before in
-    let t = w.before.before.before.before.before.before in
-    let h = t.before.before.before.before.before in
-    let start = h.before.before.before.before.before.before.before.before in
-    let a = start.args in
-    let f = t.factor-cells.ensures in
-    let k = residual binary32 a.n a.m a.p.now a.h.now a.r.now a.temp-hp.now a.s.now _ _ start.requires.5 start.requires.4 h.mult-cells.ensures
-    (w.whole_cells.ensures ∙ written_over a.m _ a.s.now t.factor-cells.new.1.1.1.1.1.1.0 start.requires.6 start.requires.4 f.1.0 f.1.1) d.0 d.1 in
-    (k.0, (h.mult-cells.ensures, k.1))
+returns : tie.Need-returns
+returns c =
+    let d = c.decompose_cells.ensures in
+    let a = c.args in
+    let f = c.factor_cells-i.ensures in
+    let k = residual binary32 a.n a.m a.p.now a.h.now a.r.now a.temp_hp.now a.s.now _ _ c.requires.5 c.requires.4 c.mult_cells.ensures
+    (c.whole_cells.ensures ∙ written_over a.m _ a.s.now c.factor_cells-i.new.s c.requires.6 c.requires.4 f.1.0 f.1.1) d.0 d.1 in
+    (k.0, (c.mult_cells.ensures, k.1))
 
-pub residual-cells-spec : {M : Type 1} → statement M
-residual-cells-spec =
+pub residual_cells_spec : {M : Type 1} → statement M
+residual_cells_spec =
     tie.close
     (tie.spec
     (λ c κs. search rules)
     (λ c κs. search rules)
     (λ c. search rules)
     (λ c. search rules)
-    returns
-    whole-cells-requires
+    returns-then-m-i
+    whole_cells-requires
     (λ c κs. search rules)
     (λ c. search rules)
     (λ c. search rules)
-    returns-2)
+    returns)

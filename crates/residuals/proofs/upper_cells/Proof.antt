@@ -7,15 +7,13 @@ use Rattle.residuals.proofs.upper_cells.Tie as tie
 
 returns : tie.Need-returns
 returns c =
-    let w = c.before.before.before.before.before.before in
-    let start = w.before.before.before.before.before.before.before in
-    let a = start.args in
-    let p = w.upper-products.ensures in
-    let s = c.before.before.add-cells-a.ensures in
-    let u = w.upper-products.new.1.1.1.1.0 in (
-      upper_added binary32 a.n a.m a.temp-hp.now a.h.now a.t.now a.r.now a.s.now u start.requires.8 start.requires.4 p.1.0 p.0 s,
+    let a = c.args in
+    let p = c.upper_products.ensures in
+    let s = c.add_cells_a.ensures in
+    let u = c.upper_products.new.s in (
+      upper_added binary32 a.n a.m a.temp_hp.now a.h.now a.t.now a.r.now a.s.now u c.requires.8 c.requires.4 p.1.0 p.0 s,
       (added_size binary32 a.m a.r.now a.s.now u p.1.0 s, added_past binary32 a.m a.r.now a.s.now u p.1.1 s),
     )
 
-pub upper-cells-spec : {M : Type 1} → statement M
-upper-cells-spec = tie.close (tie.spec (λ c κs. search rules) (λ c. search rules) (λ c κs. search rules) (λ c. search rules) returns)
+pub upper_cells_spec : {M : Type 1} → statement M
+upper_cells_spec = tie.close (tie.spec (λ c κs. search rules) (λ c. search rules) (λ c κs. search rules) (λ c. search rules) returns)

@@ -11,15 +11,14 @@ use Rattle.entries.specs.Entries.{product}
 use Rattle.residuals.proofs.upper_products.Statement.{statement}
 use Rattle.residuals.proofs.upper_products.Tie as tie
 
-returns : tie.Need-returns
-returns c =
-    let start = c.before.before.before.before.before.before.before.before in
-    let a = start.args in
-    let w = c.before.before.wide-cells.ensures in
-    let e = product binary32 a.n a.m a.temp-hp.now a.t.now in (
-      (λ r j h k. ap (λ (l : List Float). cell a.m l r j) w ∙ grid-cell a.m a.m e a.s.now r j (omega (arith, h, k)) k start.requires.2),
+returns-then-m-lt13 : tie.Need-returns-then-m-lt13
+returns-then-m-lt13 c =
+    let a = c.args in
+    let w = c.wide_cells.ensures in
+    let e = product binary32 a.n a.m a.temp_hp.now a.t.now in (
+      (λ r j h k. ap (λ (l : List Float). cell a.m l r j) w ∙ grid-cell a.m a.m e a.s.now r j (omega (arith, h, k)) k c.requires.2),
       (ap length w ∙ length-grid a.m a.m e a.s.now, (λ k h. ap (λ (l : List Float). get_or l k nan) w ∙ grid_past a.m a.m e a.s.now k h)),
     )
 
-pub upper-products-spec : {M : Type 1} → statement M
-upper-products-spec = tie.close (tie.spec (λ c κs. search rules) (λ c κs. search rules) (λ c. search rules) returns (λ c. search rules) (λ c. search rules))
+pub upper_products_spec : {M : Type 1} → statement M
+upper_products_spec = tie.close (tie.spec (λ c κs. search rules) (λ c κs. search rules) (λ c. search rules) returns-then-m-lt13 (λ c. search rules) (λ c. search rules))

@@ -9,19 +9,17 @@ use Rattle.filters.proofs.Steps.{summed}
 use Rattle.residuals.proofs.whole_cells.Statement.{statement}
 use Rattle.residuals.proofs.whole_cells.Tie as tie
 
-returns-2 : tie.Need-returns-2
-returns-2 c =
-    let w = c.before.before.before.before.before.before in
-    let start = w.before.before.before.before.before.before.before.before in
-    let a = start.args in
-    let turned = start.requires.8 (omega (arith, w.before.before.if1.false)) in
-    summed binary32 a.n a.m a.temp-hp.now a.h.now a.r.now a.s.now _ start.requires.4
-    (w.wide-cells.ensures
-    ∙ grid_ext a.m a.m _ _ a.s.now (λ r j lr lj. transposed_agrees binary32 a.m a.n a.m a.temp-hp.now a.t.now a.s.now a.h.now turned r j lj))
-    c.before.before.add-cells-a.ensures
+returns-else-m-lt4 : tie.Need-returns-else-m-lt4
+returns-else-m-lt4 c =
+    let a = c.args in
+    let turned = c.requires.8 (omega (arith, c.if-m-lt4.false)) in
+    summed binary32 a.n a.m a.temp_hp.now a.h.now a.r.now a.s.now _ c.requires.4
+    (c.wide_cells.ensures
+    ∙ grid_ext a.m a.m _ _ a.s.now (λ r j lr lj. transposed_agrees binary32 a.m a.n a.m a.temp_hp.now a.t.now a.s.now a.h.now turned r j lj))
+    c.add_cells_a.ensures
 
-pub whole-cells-spec : {M : Type 1} → statement M
-whole-cells-spec =
+pub whole_cells_spec : {M : Type 1} → statement M
+whole_cells_spec =
     tie.close
     (tie.spec
     (λ c κs. search rules)
@@ -31,4 +29,4 @@ whole-cells-spec =
     (λ c. search rules)
     (λ c. search rules)
     (λ c. search rules)
-    returns-2)
+    returns-else-m-lt4)

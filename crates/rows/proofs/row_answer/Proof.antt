@@ -3,11 +3,11 @@ use borrow.Author.Tests.{le-leb, lt-leb}
 use Rattle.rows.proofs.row_answer.Statement.{statement}
 use Rattle.rows.proofs.row_answer.Tie as tie
 
-returns : tie.Need-returns
-returns c = simp (le-leb _ _ c.if1.true)
+returns-then-n-le12 : tie.Need-returns-then-n-le12
+returns-then-n-le12 c = simp (le-leb _ _ c.if-n-le12.true)
 
-returns-2 : tie.Need-returns-2
-returns-2 c = simp (lt-leb _ _ c.if1.false)
+returns-else-n-le12 : tie.Need-returns-else-n-le12
+returns-else-n-le12 c = simp (lt-leb _ _ c.if-n-le12.false)
 
-pub row-answer-spec : {M : Type 1} → statement M
-row-answer-spec = tie.close (tie.spec returns returns-2)
+pub row_answer_spec : {M : Type 1} → statement M
+row_answer_spec = tie.close (tie.spec returns-then-n-le12 returns-else-n-le12)

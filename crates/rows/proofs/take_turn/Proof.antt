@@ -5,33 +5,33 @@ use Rattle.rows.proofs.Steps.{accepted_turn, refused_turn}
 use Rattle.rows.proofs.take_turn.Statement.{statement}
 use Rattle.rows.proofs.take_turn.Tie as tie
 
-mul-correct : tie.Need-overflow-mul-correct
-mul-correct c = search rules
+offset_bounds-readings-i : tie.Need-offset_bounds-readings-i
+offset_bounds-readings-i c = search rules
 
-shared-slice-read-correct : tie.Need-shared-slice-read-correct
-shared-slice-read-correct c = search rules
+bounds-readings-i : tie.Need-bounds-readings-i
+bounds-readings-i c = search rules
 
 correct-requires : tie.Need-correct-requires
 correct-requires c κs = search rules
 
-enum-known-renewed : tie.Need-enum-known-renewed
-enum-known-renewed c = search rules
+enum_known-renewed : tie.Need-enum_known-renewed
+enum_known-renewed c = search rules
 
 tallied-requires : tie.Need-tallied-requires
 tallied-requires c κs = search rules
 
-enum-known-blinded : tie.Need-enum-known-blinded
-enum-known-blinded c = search rules
+enum_known-blinded : tie.Need-enum_known-blinded
+enum_known-blinded c = search rules
 
-tallied-requires-2 : tie.Need-tallied-requires-2
-tallied-requires-2 c κs = search rules
+tallied-requires-in-Refused : tie.Need-tallied-requires-in-Refused
+tallied-requires-in-Refused c κs = search rules
 
-returns : tie.Need-returns
-returns c = accepted_turn _ _ _ _ _ _ (sym c.before.before.before.before.correct.ensures ∙ c.before.before.renewed.given.1) c.tallied.ensures
+returns-in-Accepted : tie.Need-returns-in-Accepted
+returns-in-Accepted c = accepted_turn _ _ _ _ _ _ (sym c.correct.ensures ∙ c.in-Accepted.is) c.tallied.ensures
 
-returns-2 : tie.Need-returns-2
-returns-2 c = refused_turn _ _ _ _ _ _ _ (sym c.before.before.before.before.correct.ensures ∙ c.before.before.blinded.given.1) c.tallied2.ensures
+returns-in-Refused : tie.Need-returns-in-Refused
+returns-in-Refused c = refused_turn _ _ _ _ _ _ _ (sym c.correct.ensures ∙ c.in-Refused.is) c.tallied-in-Refused.ensures
 
-pub take-turn-spec : {M : Type 1} → statement M
-take-turn-spec =
-    tie.close (tie.spec mul-correct shared-slice-read-correct correct-requires enum-known-renewed tallied-requires enum-known-blinded tallied-requires-2 returns returns-2)
+pub take_turn_spec : {M : Type 1} → statement M
+take_turn_spec =
+    tie.close (tie.spec offset_bounds-readings-i bounds-readings-i correct-requires enum_known-renewed tallied-requires enum_known-blinded tallied-requires-in-Refused returns-in-Accepted returns-in-Refused)

@@ -15,20 +15,20 @@ accepted : (b : Bool) → not b ≡ false → b ≡ true
 accepted true e = refl
 accepted false e = absurd (true≢false e)
 
-returns : tie.Need-returns
-returns c = simp (refused c.before.args.accepted c.if1.true)
+returns-then-not-accepted : tie.Need-returns-then-not-accepted
+returns-then-not-accepted c = simp (refused c.args.accepted c.if-not-accepted.true-raw)
 
-add-t7 : tie.Need-overflow-add-t7
-add-t7 c = search rules
+overflow_add-result : tie.Need-overflow_add-result
+overflow_add-result c = search rules
 
-add-t12 : tie.Need-overflow-add-t12
-add-t12 c = search rules
+overflow_add-result-then-t-i : tie.Need-overflow_add-result-then-t-i
+overflow_add-result-then-t-i c = search rules
 
-returns-2 : tie.Need-returns-2
-returns-2 c = simp (accepted c.before.before.args.accepted c.before.if1.false, eq-eqb _ _ c.if2.true)
+returns-then-t-i : tie.Need-returns-then-t-i
+returns-then-t-i c = simp (accepted c.args.accepted c.if-not-accepted.false-raw, eq-eqb _ _ c.if-t-i.true)
 
-returns-3 : tie.Need-returns-3
-returns-3 c = simp (accepted c.before.before.args.accepted c.before.if1.false, ne_eqb _ _ c.if2.false)
+returns-else-t-i : tie.Need-returns-else-t-i
+returns-else-t-i c = simp (accepted c.args.accepted c.if-not-accepted.false-raw, ne_eqb _ _ c.if-t-i.false)
 
-pub tallied-spec : {M : Type 1} → statement M
-tallied-spec = tie.close (tie.spec returns add-t7 add-t12 returns-2 returns-3)
+pub tallied_spec : {M : Type 1} → statement M
+tallied_spec = tie.close (tie.spec returns-then-not-accepted overflow_add-result overflow_add-result-then-t-i returns-then-t-i returns-else-t-i)

@@ -4,14 +4,14 @@ use borrow.Author.Rules.{rules}
 use Rattle.rows.proofs.to_correct.Statement.{statement}
 use Rattle.rows.proofs.to_correct.Tie as tie
 
-readings-answer-requires : tie.Need-readings-answer-requires
-readings-answer-requires c κs = search rules
+readings_answer-requires : tie.Need-readings_answer-requires
+readings_answer-requires c κs = search rules
 
-worked-on-requires : tie.Need-worked-on-requires
-worked-on-requires c κs = search rules
+worked_on-requires : tie.Need-worked_on-requires
+worked_on-requires c κs = search rules
 
 returns : tie.Need-returns
-returns c = rw (c.worked-on.ensures, c.before.readings-answer.ensures) refl
+returns c = rw (c.worked_on.ensures, c.readings_answer.ensures) refl
 
-pub to-correct-spec : {M : Type 1} → statement M
-to-correct-spec = tie.close (tie.spec readings-answer-requires worked-on-requires returns)
+pub to_correct_spec : {M : Type 1} → statement M
+to_correct_spec = tie.close (tie.spec readings_answer-requires worked_on-requires returns)

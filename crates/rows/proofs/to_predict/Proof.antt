@@ -4,14 +4,14 @@ use borrow.Author.Rules.{rules}
 use Rattle.rows.proofs.to_predict.Statement.{statement}
 use Rattle.rows.proofs.to_predict.Tie as tie
 
-row-answer-requires : tie.Need-row-answer-requires
-row-answer-requires c κs = search rules
+row_answer-requires : tie.Need-row_answer-requires
+row_answer-requires c κs = search rules
 
-worked-on-requires : tie.Need-worked-on-requires
-worked-on-requires c κs = search rules
+worked_on-requires : tie.Need-worked_on-requires
+worked_on-requires c κs = search rules
 
 returns : tie.Need-returns
-returns c = rw (c.worked-on.ensures, c.before.row-answer.ensures) refl
+returns c = rw (c.worked_on.ensures, c.row_answer.ensures) refl
 
-pub to-predict-spec : {M : Type 1} → statement M
-to-predict-spec = tie.close (tie.spec row-answer-requires worked-on-requires returns)
+pub to_predict_spec : {M : Type 1} → statement M
+to_predict_spec = tie.close (tie.spec row_answer-requires worked_on-requires returns)

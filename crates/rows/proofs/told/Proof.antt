@@ -6,20 +6,20 @@ use Rattle.answers.specs.Answers.{is_done}
 use Rattle.rows.proofs.told.Statement.{statement}
 use Rattle.rows.proofs.told.Tie as tie
 
-readings-answer-requires : tie.Need-readings-answer-requires
-readings-answer-requires c κs = search rules
+readings_answer-v-requires : tie.Need-readings_answer-v-requires
+readings_answer-v-requires c κs = search rules
 
-is-done-requires : tie.Need-is-done-requires
-is-done-requires c κs = search rules
+is_done-requires : tie.Need-is_done-requires
+is_done-requires c κs = search rules
 
-returns : tie.Need-returns
-returns c = simp (ap is_done (sym c.before.before.before.before.readings-answer.ensures) ∙ sym c.before.before.before.is-done.ensures ∙ c.before.before.if1.true, lt-ltb _ _ c.if2.true)
+returns-then-t-n : tie.Need-returns-then-t-n
+returns-then-t-n c = simp (ap is_done (sym c.readings_answer-v.ensures) ∙ sym c.is_done.ensures ∙ c.if-is_done.true, lt-ltb _ _ c.if-t-n.true)
 
-returns-2 : tie.Need-returns-2
-returns-2 c = simp (ap is_done (sym c.before.before.before.before.readings-answer.ensures) ∙ sym c.before.before.before.is-done.ensures ∙ c.before.before.if1.true, le-ltb _ _ c.if2.false)
+returns-else-t-n : tie.Need-returns-else-t-n
+returns-else-t-n c = simp (ap is_done (sym c.readings_answer-v.ensures) ∙ sym c.is_done.ensures ∙ c.if-is_done.true, le-ltb _ _ c.if-t-n.false)
 
-returns-3 : tie.Need-returns-3
-returns-3 c = simp (ap is_done (sym c.before.before.readings-answer.ensures) ∙ sym c.before.is-done.ensures ∙ c.if1.false, c.before.before.readings-answer.ensures)
+returns-else-is_done : tie.Need-returns-else-is_done
+returns-else-is_done c = simp (ap is_done (sym c.readings_answer-v.ensures) ∙ sym c.is_done.ensures ∙ c.if-is_done.false, c.readings_answer-v.ensures)
 
-pub told-spec : {M : Type 1} → statement M
-told-spec = tie.close (tie.spec readings-answer-requires is-done-requires returns returns-2 returns-3)
+pub told_spec : {M : Type 1} → statement M
+told_spec = tie.close (tie.spec readings_answer-v-requires is_done-requires returns-then-t-n returns-else-t-n returns-else-is_done)

@@ -4,14 +4,14 @@ use borrow.Author.Rules.{rules}
 use Rattle.rows.proofs.worked_on.Statement.{statement}
 use Rattle.rows.proofs.worked_on.Tie as tie
 
-is-done-requires : tie.Need-is-done-requires
-is-done-requires c κs = search rules
+is_done-requires : tie.Need-is_done-requires
+is_done-requires c κs = search rules
 
-returns : tie.Need-returns
-returns c = simp (sym c.before.is-done.ensures ∙ c.if1.true)
+returns-then-is_done : tie.Need-returns-then-is_done
+returns-then-is_done c = simp (sym c.is_done.ensures ∙ c.if-is_done.true)
 
-returns-2 : tie.Need-returns-2
-returns-2 c = simp (sym c.before.is-done.ensures ∙ c.if1.false)
+returns-else-is_done : tie.Need-returns-else-is_done
+returns-else-is_done c = simp (sym c.is_done.ensures ∙ c.if-is_done.false)
 
-pub worked-on-spec : {M : Type 1} → statement M
-worked-on-spec = tie.close (tie.spec is-done-requires returns returns-2)
+pub worked_on_spec : {M : Type 1} → statement M
+worked_on_spec = tie.close (tie.spec is_done-requires returns-then-is_done returns-else-is_done)

@@ -21,66 +21,57 @@ written i l old new h q = q ∙ simp (le-ltb i 3 h)
 
 -- ---- the way back from each step to the one before it
 
-abbrev start : tie.After-gain-three → tie.Start
-start c = c.before.before.before.before.before.before.before.before.before.before.before.before.before.before.before.before.before.before
+gain_three-i-requires : tie.Need-gain_three-i-requires
+gain_three-i-requires c κs = search rules
 
-abbrev gained : tie.After-renew-cells → tie.After-gain-three
-gained c = c.before.before.before.before.before.before.before.before.before.before.before.before.before.before.before.before.before
+shape_of-p-then-i-lt3 : tie.Need-shape_of-p-then-i-lt3
+shape_of-p-then-i-lt3 c = search rules
 
-gain-three-requires : tie.Need-gain-three-requires
-gain-three-requires c κs = search rules
+shape_of-s-then-i-lt3 : tie.Need-shape_of-s-then-i-lt3
+shape_of-s-then-i-lt3 c = search rules
 
-same_length : tie.Need-same-length
-same_length c = search rules
+shape_of-k-then-i-lt3 : tie.Need-shape_of-k-then-i-lt3
+shape_of-k-then-i-lt3 c = search rules
 
-same-length-2 : tie.Need-same-length-2
-same-length-2 c = search rules
+shape_of-temp_s_inv-then-i-lt3 : tie.Need-shape_of-temp_s_inv-then-i-lt3
+shape_of-temp_s_inv-then-i-lt3 c = search rules
 
-same-length-3 : tie.Need-same-length-3
-same-length-3 c = search rules
+shape_of-temp_hp-then-i-lt3 : tie.Need-shape_of-temp_hp-then-i-lt3
+shape_of-temp_hp-then-i-lt3 c = search rules
 
-same-length-4 : tie.Need-same-length-4
-same-length-4 c = search rules
+shape_of-temp_pht-then-i-lt3 : tie.Need-shape_of-temp_pht-then-i-lt3
+shape_of-temp_pht-then-i-lt3 c = search rules
 
-same-length-5 : tie.Need-same-length-5
-same-length-5 c = search rules
+returns-then-i-lt3 : tie.Need-returns-then-i-lt3
+returns-then-i-lt3 c =
+    let g = c.gain_three-i.ensures in
+    let h : c.gain_three-i.result < 3 = c.if-i-lt3.true in
+    pivot_refused _ _ _ _ _ _ h g.0 g.1.0 g.1.1.0 (kept _ _ _ _ h g.1.1.1.0) (kept _ _ _ _ h g.1.1.1.1.0) (kept _ _ _ _ h g.1.1.1.1.1) refl refl refl
 
-same-length-6 : tie.Need-same-length-6
-same-length-6 c = search rules
+renew_cells-requires : tie.Need-renew_cells-requires
+renew_cells-requires c κs = search rules
 
 returns : tie.Need-returns
 returns c =
-    let d = c.before.before.before.before.before.before.before.before.before.before.before in
-    let g = d.gain-three.ensures in
-    let h : d.gain-three.result < 3 = c.if1.true in
-    pivot_refused _ _ _ _ _ _ h g.0 g.1.0 g.1.1.0 (kept _ _ _ _ h g.1.1.1.0) (kept _ _ _ _ h g.1.1.1.1.0) (kept _ _ _ _ h g.1.1.1.1.1) refl refl refl
-
-renew-cells-requires : tie.Need-renew-cells-requires
-renew-cells-requires c κs = search rules
-
-returns-2 : tie.Need-returns-2
-returns-2 c =
-    let renewed = c.before.before.before.before.before.before in
-    let gain = gained renewed in
-    let held = (start gain).pre in
-    let g = gain.gain-three.ensures in
-    let h = c.before.before.before.before.before.before.before.before.before.before.before.before.if1.false in
-    let w = renewed.renew-cells.ensures in
+    let held = c.requires in
+    let g = c.gain_three-i.ensures in
+    let h = c.if-i-lt3.false in
+    let w = c.renew_cells.ensures in
     gain-taken _ _ _ _ _ held.s_holds held.k_holds held.hp_holds g.1.0 g.1.1.0 _ _ h g.0 (written _ _ _ _ h g.1.1.1.0) (written _ _ _ _ h g.1.1.1.1.0) (written _ _ _ _ h g.1.1.1.1.1) w.0 w.1.0 w.1.1.0 w.1.1.1
 
-pub update-three-spec : {M : Type 1} → statement M
-update-three-spec =
+pub update_three_spec : {M : Type 1} → statement M
+update_three_spec =
     tie.close
     (tie.spec
-    gain-three-requires
-    same_length
-    same-length-2
-    same-length-3
-    same-length-4
-    same-length-5
-    same-length-6
-    returns
-    renew-cells-requires
+    gain_three-i-requires
+    shape_of-p-then-i-lt3
+    shape_of-s-then-i-lt3
+    shape_of-k-then-i-lt3
+    shape_of-temp_s_inv-then-i-lt3
+    shape_of-temp_hp-then-i-lt3
+    shape_of-temp_pht-then-i-lt3
+    returns-then-i-lt3
+    renew_cells-requires
     (λ c. search rules)
     (λ c. search rules)
     (λ c. search rules)
@@ -89,4 +80,4 @@ update-three-spec =
     (λ c. search rules)
     (λ c. search rules)
     (λ c. search rules)
-    returns-2)
+    returns)

@@ -6,20 +6,20 @@ use lib.Ieee.{binary32}
 use Rattle.updates.proofs.innovate_cells.Statement.{statement}
 use Rattle.updates.proofs.innovate_cells.Tie as tie
 
-rowvector-cells-requires : tie.Need-rowvector-cells-requires
-rowvector-cells-requires c κs = search rules
+rowvector_cells-requires : tie.Need-rowvector_cells-requires
+rowvector_cells-requires c κs = search rules
 
-sub-cells-b-requires : tie.Need-sub-cells-b-requires
-sub-cells-b-requires c κs = search rules
+sub_cells_b-requires : tie.Need-sub_cells_b-requires
+sub_cells_b-requires c κs = search rules
 
-same_length : tie.Need-same-length
-same_length c = c.before.y2.given ∙ c.before.before.before.before.before.y.given
+shape_of-y : tie.Need-shape_of-y
+shape_of-y c = c.y-2-1.given ∙ c.y-1.given
 
 returns : tie.Need-returns
 returns c =
-    let a = c.before.before.before.before.before.before.before.before.before.before.before.before.args in
-    innovated binary32 a.n a.m a.x.now a.h.now a.z.now a.y.now _ _ (omega arith) c.before.before.before.before.before.before.rowvector-cells.ensures c.before.before.sub-cells-b.ensures
+    let a = c.args in
+    innovated binary32 a.n a.m a.x.now a.h.now a.z.now a.y.now _ _ (omega arith) c.rowvector_cells.ensures c.sub_cells_b.ensures
 
-pub innovate-cells-spec : {M : Type 1} → statement M
-innovate-cells-spec =
-    tie.close (tie.spec rowvector-cells-requires sub-cells-b-requires same_length returns)
+pub innovate_cells_spec : {M : Type 1} → statement M
+innovate_cells_spec =
+    tie.close (tie.spec rowvector_cells-requires sub_cells_b-requires shape_of-y returns)

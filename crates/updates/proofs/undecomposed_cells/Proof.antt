@@ -7,30 +7,28 @@ use Rattle.filters.proofs.Steps.{summed}
 use Rattle.updates.proofs.undecomposed_cells.Statement.{statement}
 use Rattle.updates.proofs.undecomposed_cells.Tie as tie
 
-thin-plus-requires : tie.Need-thin-plus-requires
-thin-plus-requires c κs =
-    let g = c.before.before.before.before.before.before.requires in
-    (g.4, omega (arith, c.before.if1.true), g.5, g.0, g.1, g.2, g.3)
+thin_plus-requires : tie.Need-thin_plus-requires
+thin_plus-requires c κs =
+    let g = c.requires in
+    (g.4, omega (arith, c.if-m-lt4.true), g.5, g.0, g.1, g.2, g.3)
 
-same-length-2 : tie.Need-same-length-2
-same-length-2 c = c.before.s3.given ∙ c.before.before.before.before.before.s2.given
+shape_of-s-else-m-lt4 : tie.Need-shape_of-s-else-m-lt4
+shape_of-s-else-m-lt4 c = c.s-else-m-lt4-2-1.given ∙ c.s-else-m-lt4-1.given
 
-returns-2 : tie.Need-returns-2
-returns-2 c =
-    let t = c.before.before.before.before.before.before in
-    let start = t.before.before.before.before.before.before.before in
-    let a = start.args in
-    summed binary32 a.n a.m a.temp-hp.now a.h.now a.r.now a.s.now _ start.requires.3 t.transb-cells.ensures c.before.before.add-cells-a.ensures
+returns-else-m-lt4 : tie.Need-returns-else-m-lt4
+returns-else-m-lt4 c =
+    let a = c.args in
+    summed binary32 a.n a.m a.temp_hp.now a.h.now a.r.now a.s.now _ c.requires.3 c.transb_cells.ensures c.add_cells_a.ensures
 
-pub undecomposed-cells-spec : {M : Type 1} → statement M
-undecomposed-cells-spec =
+pub undecomposed_cells_spec : {M : Type 1} → statement M
+undecomposed_cells_spec =
     tie.close
     (tie.spec
-    thin-plus-requires
+    thin_plus-requires
     (λ c κs. search rules)
     (λ c. search rules)
     (λ c κs. search rules)
     (λ c. search rules)
     (λ c. search rules)
-    same-length-2
-    returns-2)
+    shape_of-s-else-m-lt4
+    returns-else-m-lt4)

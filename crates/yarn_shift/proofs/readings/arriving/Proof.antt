@@ -16,57 +16,57 @@ from_5 n h0 h1 h2 h3 h4 = omega arith
 from_10 : (n : ℕ) → 5 ≤ n → (n ≡ 5 → ⊥) → (n ≡ 6 → ⊥) → (n ≡ 7 → ⊥) → (n ≡ 8 → ⊥) → (n ≡ 9 → ⊥) → 10 ≤ n
 from_10 n large h5 h6 h7 h8 h9 = omega arith
 
-returns : tie.Need-returns
-returns c = rw c.match.keys1
+returns-in-0 : tie.Need-returns-in-0
+returns-in-0 c = rw c.in-0.is
 
-returns-2 : tie.Need-returns-2
-returns-2 c = rw c.match.keys2
+returns-in-1 : tie.Need-returns-in-1
+returns-in-1 c = rw c.in-1.is
 
-returns-3 : tie.Need-returns-3
-returns-3 c = rw c.match.keys3
+returns-in-2 : tie.Need-returns-in-2
+returns-in-2 c = rw c.in-2.is
 
-returns-4 : tie.Need-returns-4
+returns-in-3 : tie.Need-returns-in-3
 unfolding div of_bits
-returns-4 c = rw c.match.keys4
+returns-in-3 c = rw c.in-3.is
 
-returns-5 : tie.Need-returns-5
+returns-in-4 : tie.Need-returns-in-4
 unfolding div of_bits
-returns-5 c = rw c.match.keys5
+returns-in-4 c = rw c.in-4.is
 
-returns-6 : tie.Need-returns-6
-returns-6 c = rw c.match.keys6
+returns-in-5 : tie.Need-returns-in-5
+returns-in-5 c = rw c.in-5.is
 
-returns-7 : tie.Need-returns-7
+returns-in-6 : tie.Need-returns-in-6
 unfolding div of_bits
-returns-7 c = rw c.match.keys7
+returns-in-6 c = rw c.in-6.is
 
-returns-8 : tie.Need-returns-8
-returns-8 c = rw c.match.keys8
+returns-in-7 : tie.Need-returns-in-7
+returns-in-7 c = rw c.in-7.is
 
-returns-9 : tie.Need-returns-9
-returns-9 c = rw c.match.keys9
+returns-in-8 : tie.Need-returns-in-8
+returns-in-8 c = rw c.in-8.is
 
-returns-10 : tie.Need-returns-10
-returns-10 c = rw c.match.keys10
+returns-in-9 : tie.Need-returns-in-9
+returns-in-9 c = rw c.in-9.is
 
-returns-11 : tie.Need-returns-11
-returns-11 c =
-    let none = c.match.rest in
+returns-in_default : tie.Need-returns-in_default
+returns-in_default c =
+    let none = c.in_default.rest in
     sym (get_or-eq_default readings Lost
     (from_10 _ (from_5 _ none.0.0.0.0.0.0.0.0.0.1 none.0.0.0.0.0.0.0.0.1 none.0.0.0.0.0.0.0.1 none.0.0.0.0.0.0.1 none.0.0.0.0.0.1) none.0.0.0.0.1 none.0.0.0.1 none.0.0.1 none.0.1 none.1))
 
-pub arriving-spec : {M : Type 1} → statement M
-arriving-spec =
+pub arriving_spec : {M : Type 1} → statement M
+arriving_spec =
     tie.close
     (tie.spec
-    returns
-    returns-2
-    returns-3
-    returns-4
-    returns-5
-    returns-6
-    returns-7
-    returns-8
-    returns-9
-    returns-10
-    returns-11)
+    returns-in-0
+    returns-in-1
+    returns-in-2
+    returns-in-3
+    returns-in-4
+    returns-in-5
+    returns-in-6
+    returns-in-7
+    returns-in-8
+    returns-in-9
+    returns-in_default)

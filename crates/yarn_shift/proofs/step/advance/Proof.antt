@@ -5,47 +5,45 @@ use Rattle.yarn_shift.proofs.Steps.{lost, heard}
 use Rattle.yarn_shift.proofs.step.advance.Statement.{statement}
 use Rattle.yarn_shift.proofs.step.advance.Tie as tie
 
-predict-requires : tie.Need-predict-requires
-predict-requires c κs = search rules
+predict-predicted-requires : tie.Need-predict-predicted-requires
+predict-predicted-requires c κs = search rules
 
-enum_told : tie.Need-enum-told
-enum_told c = search rules
+enum_told-1 : tie.Need-enum_told-1
+enum_told-1 c = search rules
 
-enum-known-g : tie.Need-enum-known-g
-enum-known-g c = search rules
+enum_known-g : tie.Need-enum_known-g
+enum_known-g c = search rules
 
 correct-requires : tie.Need-correct-requires
 correct-requires c κs = search rules
 
-enum-known-after : tie.Need-enum-known-after
-enum-known-after c = search rules
+enum_known-after : tie.Need-enum_known-after
+enum_known-after c = search rules
 
-enum-known-after-2 : tie.Need-enum-known-after-2
-enum-known-after-2 c = search rules
+enum_known-after-in-Refused-1 : tie.Need-enum_known-after-in-Refused-1
+enum_known-after-in-Refused-1 c = search rules
 
-returns : tie.Need-returns
-returns c = lost _ _ _ c.before.before.predict.ensures c.enum_told.given.1
+returns-in-Lost : tie.Need-returns-in-Lost
+returns-in-Lost c = lost _ _ _ c.predict-predicted.ensures c.in-Lost.is
 
-returns-2 : tie.Need-returns-2
-returns-2 c =
-    let b = c.before.before.before in
-    heard _ _ _ _ _ _ b.before.before.before.before.predict.ensures b.before.before.g.given.1 (sym b.correct.ensures ∙ c.before.after.given.1)
+returns-in-Accepted : tie.Need-returns-in-Accepted
+returns-in-Accepted c =
+    heard _ _ _ _ _ _ c.predict-predicted.ensures c.in-Arrived.is (sym c.correct.ensures ∙ c.in-Accepted.is)
 
-returns-3 : tie.Need-returns-3
-returns-3 c =
-    let b = c.before.before.before in
-    heard _ _ _ _ _ _ b.before.before.before.before.predict.ensures b.before.before.g.given.1 (sym b.correct.ensures ∙ c.before.after2.given.1)
+returns-in-Refused : tie.Need-returns-in-Refused
+returns-in-Refused c =
+    heard _ _ _ _ _ _ c.predict-predicted.ensures c.in-Arrived.is (sym c.correct.ensures ∙ c.in-Refused.is)
 
-pub advance-spec : {M : Type 1} → statement M
-advance-spec =
+pub advance_spec : {M : Type 1} → statement M
+advance_spec =
     tie.close
     (tie.spec
-    predict-requires
-    enum_told
-    enum-known-g
+    predict-predicted-requires
+    enum_told-1
+    enum_known-g
     correct-requires
-    enum-known-after
-    enum-known-after-2
-    returns
-    returns-2
-    returns-3)
+    enum_known-after
+    enum_known-after-in-Refused-1
+    returns-in-Lost
+    returns-in-Accepted
+    returns-in-Refused)
