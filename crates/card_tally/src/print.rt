@@ -1,12 +1,13 @@
-// What the program writes.
+// What the program writes. An error is one that a write gave.
 use crate::tally::Tally;
 use card_bytes::{CODE, LENGTH};
 use card_list::{Count, Found, SIZES};
 use lists::{Seen, seen};
+use std::io;
 
 // The number n, and words behind it.
 fn number(rt: &impl Print, n: u64, words: &[u8]) -> io::Result<()> {
-    print!(rt; "{}", n)?;
+    print!(rt; "{n}")?;
     rt.write_all(words)
 }
 
@@ -30,16 +31,16 @@ fn numbers(rt: &impl Print, want: u32, found: u32) -> io::Result<()> {
 fn first_read(rt: &impl Print, o: Seen) -> io::Result<()> {
     if o.buffer == seen::ANSWER {
         rt.write_all(b"code")?;
-        numbers(rt, o.want, o.found)?;
+        numbers(rt, o.want, o.found)
     } else if o.buffer == SIZES {
         rt.write_all(b"size ")?;
         print!(rt; "{}", o.index)?;
-        numbers(rt, o.want, o.found)?;
+        numbers(rt, o.want, o.found)
     } else {
         rt.write_all(b"buffer ")?;
         number(rt, o.buffer as u64, b", number ")?;
         print!(rt; "{}", o.index)?;
-        bits(rt, o.want, o.found)?;
+        bits(rt, o.want, o.found)
     }
 }
 
@@ -78,6 +79,7 @@ pub fn difference(rt: &impl Print, line: u64, f: Found) -> io::Result<()> {
         head(rt, line, back, b" differ written again")?;
         first_back(rt, back.first)?;
     }
+    Ok(())
 }
 
 // A line that is none of a list.

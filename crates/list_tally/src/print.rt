@@ -1,11 +1,12 @@
-// What the program writes.
+// What the program writes. An error is one that a write gave.
 use crate::letters;
 use crate::tally::Tally;
 use lists::{Seen, seen};
+use std::io;
 
 // The number n, and words behind it.
 fn number(rt: &impl Print, n: u64, words: &[u8]) -> io::Result<()> {
-    print!(rt; "{}", n)?;
+    print!(rt; "{n}")?;
     rt.write_all(words)
 }
 
@@ -24,14 +25,14 @@ fn name(rt: &impl Print, s: &[u8]) -> io::Result<()> {
 // Where in the call the first difference is.
 fn place(rt: &impl Print, o: Seen) -> io::Result<()> {
     if o.buffer == seen::ANSWER {
-        rt.write_all(b", answer")?;
+        rt.write_all(b", answer")
     } else if o.buffer == seen::VALUE {
-        rt.write_all(b", value")?;
+        rt.write_all(b", value")
     } else {
         rt.write_all(b", buffer ")?;
         print!(rt; "{}", o.buffer)?;
         rt.write_all(b", number ")?;
-        print!(rt; "{}", o.index)?;
+        print!(rt; "{}", o.index)
     }
 }
 

@@ -1,9 +1,10 @@
-// What the program writes.
+// What the program writes. An error is one that a write gave.
 use root_list::Tally;
+use std::io;
 
 // The number n, and words behind it.
 fn number(rt: &impl Print, n: u64, words: &[u8]) -> io::Result<()> {
-    print!(rt; "{}", n)?;
+    print!(rt; "{n}")?;
     rt.write_all(words)
 }
 
