@@ -26,8 +26,11 @@ pub fn read_full<R: Read>(input: &mut R, space: &mut [u8]) -> io::Result<usize>
     Ok(done)
 }
 
-// Reads behind the bytes that are kept: how many bytes there are then, or the error of a read.
-pub fn refill<R: Read>(input: &mut R, kept: usize, space: &mut [u8]) -> io::Result<usize> {
+// Reads behind the bytes that are kept: how many bytes there are then, or the error of a read. A space
+// that has no room for what is kept holds none.
+pub fn refill<R: Read>(input: &mut R, kept: usize, space: &mut [u8]) -> io::Result<usize>
+    ensures { ReadsAtMost result space.new }
+{
     if space.len() < kept {
         return Ok(0);
     }
