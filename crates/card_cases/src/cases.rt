@@ -5,6 +5,7 @@ use card_list::replay;
 use card_tally::print;
 use card_tally::tally::{Tally, empty};
 use lists::seen::one_more;
+use std::io;
 
 // The counts so far, how many bytes the card has that stands in the base, and how long the buffers
 // are.
@@ -30,106 +31,106 @@ pub fn start() -> Cases {
     }
 }
 
-// The counts with a bad line more.
-fn bad(t: Tally) -> Tally {
+// The counts with a bad line more, or the error of a write, here and below.
+fn bad(rt: &impl Print, t: Tally) -> io::Result<Tally> {
     if t.told < 10 {
-        print::bad(one_more(t.lines));
+        print::bad(rt, one_more(t.lines))?;
     }
-    t.bad().tell()
+    Ok(t.bad().tell())
 }
 
 // A line that holds a card, which is put into the base. Behind a bad one there is no card.
-fn card_line(v: Cases, s: &[u8], base: &mut [u8]) -> Cases {
+fn card_line(rt: &impl Print, v: Cases, s: &[u8], base: &mut [u8]) -> io::Result<Cases> {
     let t = v.t;
     let l = v.l;
     let w = lines::word_at(s, 1);
     let len = w.bits as usize;
     let next = unpack(s, w.next, len, base);
     if next == s.len() {
-        return Cases {
+        return Ok(Cases {
             t: t.line(),
             len: len,
             l: l,
-        };
+        });
     }
-    Cases {
-        t: bad(t),
+    Ok(Cases {
+        t: bad(rt, t)?,
         len: lines::LOST,
         l: l,
-    }
+    })
 }
 
 // A line that holds the lengths of the buffers.
-fn lengths_line(v: Cases, s: &[u8]) -> Cases {
+fn lengths_line(rt: &impl Print, v: Cases, s: &[u8]) -> io::Result<Cases> {
     let t = v.t;
     let l = lengths_at(s, 1);
     if l.next == s.len() {
-        return Cases {
+        return Ok(Cases {
             t: t.line(),
             len: v.len,
             l: l,
-        };
+        });
     }
-    Cases {
-        t: bad(t),
+    Ok(Cases {
+        t: bad(rt, t)?,
         len: v.len,
         l: l,
-    }
+    })
 }
 
 // The counts with a line of cards more, of which the first ten that differ or are bad are written.
-fn edit_line(v: Cases, s: &[u8], put: bool, base: &[u8]) -> Tally {
+fn edit_line(rt: &impl Print, v: Cases, s: &[u8], put: bool, base: &[u8]) -> io::Result<Tally> {
     let t = v.t;
     let len = v.len;
     if base.len() < len {
-        return bad(t);
+        return bad(rt, t);
     }
     let f = replay(s, &base[0..len], edit_at(s, 1, put), v.l);
     if f.next != s.len() {
-        return bad(t);
+        return bad(rt, t);
     }
     if f.agrees() {
-        return t.cards(f);
+        return Ok(t.cards(f));
     }
     if t.told < 10 {
-        print::difference(one_more(t.lines), f);
+        print::difference(rt, one_more(t.lines), f)?;
     }
-    t.cards(f).tell()
+    Ok(t.cards(f).tell())
 }
 
 // The same with what else the line may be.
-fn add_line(v: Cases, s: &[u8], base: &mut [u8]) -> Cases {
+fn add_line(rt: &impl Print, v: Cases, s: &[u8], base: &mut [u8]) -> io::Result<Cases> {
     let mut w = v;
     match lines::byte_at(s, 0) {
         b'#' => {
             w.t = v.t.line();
-            w
+            Ok(w)
         }
-        b'c' => card_line(v, s, base),
-        b'b' => lengths_line(v, s),
+        b'c' => card_line(rt, v, s, base),
+        b'b' => lengths_line(rt, v, s),
         b'x' => {
-            w.t = edit_line(v, s, false, base);
-            w
+            w.t = edit_line(rt, v, s, false, base)?;
+            Ok(w)
         }
         b'p' => {
-            w.t = edit_line(v, s, true, base);
-            w
+            w.t = edit_line(rt, v, s, true, base)?;
+            Ok(w)
         }
         _ => {
-            w.t = bad(v.t);
-            w
+            w.t = bad(rt, v.t)?;
+            Ok(w)
         }
     }
 }
 
 // The counts with all lines of s more. The last line may lack its newline.
-pub fn add_lines(v: Cases, s: &[u8], base: &mut [u8]) -> Cases {
+pub fn add_lines(rt: &impl Print, v: Cases, s: &[u8], base: &mut [u8]) -> io::Result<Cases> {
     let mut all = v;
     let mut at: usize = 0;
     while at < s.len() {
         let end = lines::line_end(s, at);
-        all = add_line(all, &s[at..end], base);
+        all = add_line(rt, all, &s[at..end], base)?;
         at = end + 1;
     }
-    all
+    Ok(all)
 }

@@ -23,20 +23,25 @@
 // NaN equals any other. The card is written into 20 bytes more than it has, into as many, and into one
 // less, which is refused (204). These bytes are lent with values that no card has, which must stand past
 // it, and everywhere where it is refused.
+#![tactic(auto)]
+
 mod cases;
 mod stream;
 
+use std::io;
+
 // 2³² fills of the buffer are more than any list has.
-fn main() {
+fn main(rt: HostRuntime) -> io::Result<()> {
     let mut space = [0u8; 65536];
     let buffer: &mut [u8] = &mut space;
     let mut bytes = [0u8; 12288];
     let base: &mut [u8] = &mut bytes;
+    let mut input = rt.reader();
     let mut v = cases::start();
     let mut kept: usize = 0;
     let mut turns: u64 = 0x1_0000_0000;
     while 0 < turns {
-        let fed = stream::feed(v, kept, buffer, base);
+        let fed = stream::feed(&rt, &mut input, v, kept, buffer, base)?;
         v = fed.v;
         kept = fed.kept;
         if fed.more {
@@ -45,5 +50,5 @@ fn main() {
             turns = 0;
         }
     }
-    card_tally::print::counts(v.t);
+    card_tally::print::counts(&rt, v.t)
 }

@@ -1,97 +1,98 @@
-// What the program writes.
+// What the program writes. An error is one that a write gave.
 use crate::tally::Tally;
 use card_bytes::{CODE, LENGTH};
 use card_list::{Count, Found, SIZES};
-use libc::STDOUT_FILENO;
 use lists::{Seen, seen};
+use std::io;
 
 // The number n, and words behind it.
-fn number(n: u64, words: &[u8]) {
-    io::print_decimal(STDOUT_FILENO, n);
-    io::write_all(STDOUT_FILENO, words);
+fn number(rt: &impl Print, n: u64, words: &[u8]) -> io::Result<()> {
+    print!(rt; "{n}")?;
+    rt.write_all(words)
 }
 
 // What was expected and what was found, each in eight hexadecimal digits.
-fn bits(want: u32, found: u32) {
-    io::write_all(STDOUT_FILENO, b": expected ");
-    io::print_hex(STDOUT_FILENO, want as u64, 8);
-    io::write_all(STDOUT_FILENO, b", found ");
-    io::print_hex(STDOUT_FILENO, found as u64, 8);
-    io::write_all(STDOUT_FILENO, b"\n");
+fn bits(rt: &impl Print, want: u32, found: u32) -> io::Result<()> {
+    rt.write_all(b": expected ")?;
+    print!(rt; "{want:08x}")?;
+    rt.write_all(b", found ")?;
+    print!(rt; "{found:08x}")?;
+    rt.write_all(b"\n")
 }
 
 // The same in decimal.
-fn numbers(want: u32, found: u32) {
-    io::write_all(STDOUT_FILENO, b": expected ");
-    number(want as u64, b", found ");
-    number(found as u64, b"\n");
+fn numbers(rt: &impl Print, want: u32, found: u32) -> io::Result<()> {
+    rt.write_all(b": expected ")?;
+    number(rt, want as u64, b", found ")?;
+    number(rt, found as u64, b"\n")
 }
 
 // The first difference of a card that was read: where it is, what was expected and what was found.
-fn first_read(o: Seen) {
+fn first_read(rt: &impl Print, o: Seen) -> io::Result<()> {
     if o.buffer == seen::ANSWER {
-        io::write_all(STDOUT_FILENO, b"code");
-        numbers(o.want, o.found);
+        rt.write_all(b"code")?;
+        numbers(rt, o.want, o.found)
     } else if o.buffer == SIZES {
-        io::write_all(STDOUT_FILENO, b"size ");
-        io::print_decimal(STDOUT_FILENO, o.index as u64);
-        numbers(o.want, o.found);
+        rt.write_all(b"size ")?;
+        print!(rt; "{}", o.index)?;
+        numbers(rt, o.want, o.found)
     } else {
-        io::write_all(STDOUT_FILENO, b"buffer ");
-        number(o.buffer as u64, b", number ");
-        io::print_decimal(STDOUT_FILENO, o.index as u64);
-        bits(o.want, o.found);
+        rt.write_all(b"buffer ")?;
+        number(rt, o.buffer as u64, b", number ")?;
+        print!(rt; "{}", o.index)?;
+        bits(rt, o.want, o.found)
     }
 }
 
 // The same of a card that was written again.
-fn first_back(o: Seen) {
+fn first_back(rt: &impl Print, o: Seen) -> io::Result<()> {
     if o.buffer == CODE {
-        io::write_all(STDOUT_FILENO, b"code");
+        rt.write_all(b"code")?;
     } else if o.buffer == LENGTH {
-        io::write_all(STDOUT_FILENO, b"length");
+        rt.write_all(b"length")?;
     } else {
-        io::write_all(STDOUT_FILENO, b"position ");
-        io::print_decimal(STDOUT_FILENO, o.index as u64);
+        rt.write_all(b"position ")?;
+        print!(rt; "{}", o.index)?;
     }
-    numbers(o.want, o.found);
+    numbers(rt, o.want, o.found)
 }
 
 // How many cards of a line differ, and the byte that was put into the first.
-fn head(line: u64, c: Count, words: &[u8]) {
-    io::write_all(STDOUT_FILENO, b"line ");
-    number(line, b": ");
-    number(c.differ, words);
-    io::write_all(STDOUT_FILENO, b", the first with byte ");
-    number(c.byte as u64, b", ");
+fn head(rt: &impl Print, line: u64, c: Count, words: &[u8]) -> io::Result<()> {
+    rt.write_all(b"line ")?;
+    number(rt, line, b": ")?;
+    number(rt, c.differ, words)?;
+    rt.write_all(b", the first with byte ")?;
+    number(rt, c.byte as u64, b", ")
 }
 
 // A line of which cards differ: how many were read otherwise and how many written otherwise, and the first
 // of each.
-pub fn difference(line: u64, f: Found) {
+pub fn difference(rt: &impl Print, line: u64, f: Found) -> io::Result<()> {
     let read = f.read;
     let back = f.back;
     if 0 < read.differ {
-        head(line, read, b" differ");
-        first_read(read.first);
+        head(rt, line, read, b" differ")?;
+        first_read(rt, read.first)?;
     }
     if 0 < back.differ {
-        head(line, back, b" differ written again");
-        first_back(back.first);
+        head(rt, line, back, b" differ written again")?;
+        first_back(rt, back.first)?;
     }
+    Ok(())
 }
 
 // A line that is none of a list.
-pub fn bad(line: u64) {
-    io::write_all(STDOUT_FILENO, b"line ");
-    number(line, b": bad\n");
+pub fn bad(rt: &impl Print, line: u64) -> io::Result<()> {
+    rt.write_all(b"line ")?;
+    number(rt, line, b": bad\n")
 }
 
 // The counts at the end.
-pub fn counts(t: Tally) {
-    number(t.cards, b" cards read, ");
-    number(t.differ, b" differ\n");
-    number(t.written, b" cards written again, ");
-    number(t.unlike, b" differ\n");
-    number(t.bad, b" bad lines\n");
+pub fn counts(rt: &impl Print, t: Tally) -> io::Result<()> {
+    number(rt, t.cards, b" cards read, ")?;
+    number(rt, t.differ, b" differ\n")?;
+    number(rt, t.written, b" cards written again, ")?;
+    number(rt, t.unlike, b" differ\n")?;
+    number(rt, t.bad, b" bad lines\n")
 }

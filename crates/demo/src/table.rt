@@ -1,148 +1,153 @@
-// What the program writes.
+// What the program writes. An error is one that a write gave.
 ghost use Rattle.std.specs.Prelude.{◌≡◌};
 
 use answers::Answer;
 use figures::{gap, number, plain, right, text, whole};
 use one_state::OneState;
 use shift::{Step, Tally};
+use std::io;
 use wire::{Outcome, Reading};
 
 // The tension that was read, or a dash.
-fn reading(g: Reading) {
+fn reading(rt: &impl Print, g: Reading) -> io::Result<()> {
     match g {
         Reading::Arrived(z, _) => {
             if z != z {
-                text(b"     NaN");
+                text(rt, b"     NaN")
             } else if z == 1.0 / 0.0 {
-                text(b"     inf");
+                text(rt, b"     inf")
             } else {
-                number(z);
+                number(rt, z)
             }
         }
-        Reading::Lost => text(b"       -"),
+        Reading::Lost => text(rt, b"       -"),
     }
 }
 
 // What the correction answered, in the fitter's words.
-fn answer(v: Answer) {
+fn answer(rt: &impl Print, v: Answer) -> io::Result<()> {
     match v {
-        Answer::Done => text(b"taken"),
+        Answer::Done => text(rt, b"taken"),
         Answer::Pivot(i) => {
-            text(b"refused: pivot ");
-            whole(i as u64);
-            text(b", estimate kept");
+            text(rt, b"refused: pivot ")?;
+            whole(rt, i as u64)?;
+            text(rt, b", estimate kept")
         }
-        Answer::NotFinite => text(b"refused: result not finite, estimate kept"),
-        _ => text(b"refused, estimate kept"),
+        Answer::NotFinite => text(rt, b"refused: result not finite, estimate kept"),
+        _ => text(rt, b"refused, estimate kept"),
     }
 }
 
 // What became of the reading.
-fn outcome(o: Outcome) {
+fn outcome(rt: &impl Print, o: Outcome) -> io::Result<()> {
     match o {
-        Outcome::NoReading => text(b"no reading, predicted only"),
-        Outcome::Answered(v) => answer(v),
+        Outcome::NoReading => text(rt, b"no reading, predicted only"),
+        Outcome::Answered(v) => answer(rt, v),
     }
 }
 
 // Behind the answer: that the reading or its noise is not a number, or infinite.
-fn remark(g: Reading) {
+fn remark(rt: &impl Print, g: Reading) -> io::Result<()> {
     if let Reading::Arrived(z, r) = g {
         if z != z {
-            text(b" (the reading is not a number)");
+            text(rt, b" (the reading is not a number)")?;
         } else if z == 1.0 / 0.0 {
-            text(b" (the reading is infinite)");
+            text(rt, b" (the reading is infinite)")?;
         } else if r != r {
-            text(b" (R is not a number)");
+            text(rt, b" (R is not a number)")?;
         } else if r == 1.0 / 0.0 {
-            text(b" (R is infinite)");
+            text(rt, b" (R is infinite)")?;
         }
     }
+    Ok(())
 }
 
 // The columns that both tables have: the step, the reading, the estimate x of the tension and its
 // standard deviation, the root of p.
-fn columns(n: u64, g: Reading, x: f32, p: f32) {
-    right(n);
-    gap();
-    reading(g);
-    gap();
-    number(x);
-    gap();
-    number(data_type::square_root(p));
-    gap();
+fn columns(rt: &impl Print, n: u64, g: Reading, x: f32, p: f32) -> io::Result<()> {
+    right(rt, n)?;
+    gap(rt)?;
+    reading(rt, g)?;
+    gap(rt)?;
+    number(rt, x)?;
+    gap(rt)?;
+    number(rt, data_type::square_root(p))?;
+    gap(rt)
 }
 
 // The columns' names.
-pub fn head() {
-    text(b"Yarn tension at a feeder, in cN\n\n");
-    text(b" step   reading  estimate    spread  answer\n");
+pub fn head(rt: &impl Print) -> io::Result<()> {
+    text(rt, b"Yarn tension at a feeder, in cN\n\n")?;
+    text(rt, b" step   reading  estimate    spread  answer\n")
 }
 
 // The line of step n.
-pub fn line(n: u64, g: Reading, s: Step) {
+pub fn line(rt: &impl Print, n: u64, g: Reading, s: Step) -> io::Result<()> {
     let after = s.after;
     let o = s.outcome;
     let p = after.p;
-    columns(n, g, feeder::tension(after), p[0]);
-    outcome(o);
-    remark(g);
-    text(b"\n");
+    columns(rt, n, g, feeder::tension(after), p[0])?;
+    outcome(rt, o)?;
+    remark(rt, g)?;
+    text(rt, b"\n")
 }
 
 // What became of the readings. The last sentence is true of every tally that may arrive.
-pub fn foot(t: Tally)
+pub fn foot(rt: &impl Print, t: Tally) -> io::Result<()>
     requires { t.before ≡ t.after }
 {
-    text(b"\n");
-    whole(t.taken);
-    text(b" readings taken, ");
-    whole(t.refused);
-    text(b" refused, ");
-    whole(t.lost);
-    text(b" lost on the wire.\n");
+    text(rt, b"\n")?;
+    whole(rt, t.taken)?;
+    text(rt, b" readings taken, ")?;
+    whole(rt, t.refused)?;
+    text(rt, b" refused, ")?;
+    whole(rt, t.lost)?;
+    text(rt, b" lost on the wire.\n")?;
     if 0 < t.refused {
-        text(b"A refusal changes nothing: the estimate was ");
-        plain(t.before);
-        text(b" before the last one and is ");
-        plain(t.after);
-        text(b" after it.\n");
+        text(rt, b"A refusal changes nothing: the estimate was ")?;
+        plain(rt, t.before)?;
+        text(rt, b" before the last one and is ")?;
+        plain(rt, t.after)?;
+        text(rt, b" after it.\n")?;
     }
+    Ok(())
 }
 
 // The title and the columns' names of the yarn's table.
-pub fn yarn_head() {
+pub fn yarn_head(rt: &impl Print) -> io::Result<()> {
     text(
+        rt,
         b"\nAnother yarn, by the record of one state: blind is how many readings in a row were refused\n\n",
-    );
-    text(b" step   reading  estimate    spread  blind  answer\n");
+    )?;
+    text(rt, b" step   reading  estimate    spread  blind  answer\n")
 }
 
 // What the operator is told once three readings or more in a row were refused.
-fn alarm(yarn: OneState) {
+fn alarm(rt: &impl Print, yarn: OneState) -> io::Result<()> {
     if 2 < yarn.blind {
-        text(b", blind for ");
-        whole(yarn.blind as u64);
-        text(b" readings");
+        text(rt, b", blind for ")?;
+        whole(rt, yarn.blind as u64)?;
+        text(rt, b" readings")?;
     }
+    Ok(())
 }
 
 // The line of step n.
-pub fn yarn_line(n: u64, g: Reading, s: yarn_shift::Step) {
+pub fn yarn_line(rt: &impl Print, n: u64, g: Reading, s: yarn_shift::Step) -> io::Result<()> {
     let after = s.after;
     let o = s.outcome;
-    columns(n, g, after.x, after.p);
-    right(after.blind as u64);
-    gap();
-    outcome(o);
-    alarm(after);
-    remark(g);
-    text(b"\n");
+    columns(rt, n, g, after.x, after.p)?;
+    right(rt, after.blind as u64)?;
+    gap(rt)?;
+    outcome(rt, o)?;
+    alarm(rt, after)?;
+    remark(rt, g)?;
+    text(rt, b"\n")
 }
 
 // For how many readings the yarn has been blind at the end.
-pub fn yarn_foot(yarn: OneState) {
-    text(b"\nBlind for ");
-    whole(yarn.blind as u64);
-    text(b" readings at the end.\n");
+pub fn yarn_foot(rt: &impl Print, yarn: OneState) -> io::Result<()> {
+    text(rt, b"\nBlind for ")?;
+    whole(rt, yarn.blind as u64)?;
+    text(rt, b" readings at the end.\n")
 }

@@ -1,64 +1,66 @@
 // What a table is written with: words, whole numbers, and numbers with two decimals.
-use hundredths::{Hundredths, in_hundredths};
-use libc::STDOUT_FILENO;
+#![tactic(auto)]
 
-// Words.
-pub fn text(words: &[u8]) {
-    io::write_all(STDOUT_FILENO, words);
+use hundredths::{Hundredths, in_hundredths};
+use std::io;
+
+// Words. An error is one that a write gave, here and below.
+pub fn text(rt: &impl Print, words: &[u8]) -> io::Result<()> {
+    rt.write_all(words)
 }
 
 // The room between two columns.
-pub fn gap() {
-    text(b"  ");
+pub fn gap(rt: &impl Print) -> io::Result<()> {
+    text(rt, b"  ")
 }
 
 // The number n.
-pub fn whole(n: u64) {
-    io::print_decimal(STDOUT_FILENO, n);
+pub fn whole(rt: &impl Print, n: u64) -> io::Result<()> {
+    print!(rt; "{n}")
 }
 
 // n at the right of five places.
-pub fn right(n: u64) {
+pub fn right(rt: &impl Print, n: u64) -> io::Result<()> {
     if n < 10 {
-        text(b"    ");
+        text(rt, b"    ")?;
     } else if n < 100 {
-        text(b"   ");
+        text(rt, b"   ")?;
     } else if n < 1000 {
-        text(b"  ");
+        text(rt, b"  ")?;
     } else if n < 10000 {
-        text(b" ");
+        text(rt, b" ")?;
     }
-    whole(n);
+    whole(rt, n)
 }
 
 // The two decimals of h hundredths.
-fn decimals(h: u64) {
+fn decimals(rt: &impl Print, h: u64) -> io::Result<()> {
     if h % 100 < 10 {
-        text(b".0");
+        text(rt, b".0")?;
     } else {
-        text(b".");
+        text(rt, b".")?;
     }
-    whole(h % 100);
+    whole(rt, h % 100)
 }
 
 // v with two decimals.
-pub fn plain(v: f32) {
+pub fn plain(rt: &impl Print, v: f32) -> io::Result<()> {
     match in_hundredths(v) {
         Hundredths::Of(h) => {
-            whole(h / 100);
-            decimals(h);
+            whole(rt, h / 100)?;
+            decimals(rt, h)
         }
-        Hundredths::Beyond => text(b"?"),
+        Hundredths::Beyond => text(rt, b"?"),
     }
 }
 
 // The same at the right of eight places.
-pub fn number(v: f32) {
+pub fn number(rt: &impl Print, v: f32) -> io::Result<()> {
     match in_hundredths(v) {
         Hundredths::Of(h) => {
-            right(h / 100);
-            decimals(h);
+            right(rt, h / 100)?;
+            decimals(rt, h)
         }
-        Hundredths::Beyond => text(b"       ?"),
+        Hundredths::Beyond => text(rt, b"       ?"),
     }
 }

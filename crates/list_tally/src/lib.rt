@@ -1,12 +1,15 @@
 // What the replay of a list counts and writes, for the program `vectors`.
-ghost use Rattle.io.specs.Counts.{IsPrefixLen};
+#![tactic(auto)]
+
+ghost use Rattle.std.specs.Prelude.{◌≡◌, ◌≤◌, length, take};
 
 pub mod print;
 pub mod tally;
 
 // How many small letters and '_' stand at the front of s.
 pub fn letters(s: &[u8]) -> usize
-    ensures { IsPrefixLen result s.now }
+    ensures within { result ≤ length s.now }
+    ensures prefix { result ≡ length (take result s.now) }
 {
     let mut i: usize = 0;
     while i < s.len() {

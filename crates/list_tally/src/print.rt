@@ -1,64 +1,64 @@
-// What the program writes.
+// What the program writes. An error is one that a write gave.
 use crate::letters;
 use crate::tally::Tally;
-use libc::STDOUT_FILENO;
 use lists::{Seen, seen};
+use std::io;
 
 // The number n, and words behind it.
-fn number(n: u64, words: &[u8]) {
-    io::print_decimal(STDOUT_FILENO, n);
-    io::write_all(STDOUT_FILENO, words);
+fn number(rt: &impl Print, n: u64, words: &[u8]) -> io::Result<()> {
+    print!(rt; "{n}")?;
+    rt.write_all(words)
 }
 
 // Words, and the pattern b behind them in eight hexadecimal digits.
-fn bits(words: &[u8], b: u32) {
-    io::write_all(STDOUT_FILENO, words);
-    io::print_hex(STDOUT_FILENO, b as u64, 8);
+fn bits(rt: &impl Print, words: &[u8], b: u32) -> io::Result<()> {
+    rt.write_all(words)?;
+    print!(rt; "{b:08x}")
 }
 
 // The function's name, with which the line s begins.
-fn name(s: &[u8]) {
+fn name(rt: &impl Print, s: &[u8]) -> io::Result<()> {
     let end = letters(s);
-    io::write_all(STDOUT_FILENO, &s[..end]);
+    rt.write_all(&s[..end])
 }
 
 // Where in the call the first difference is.
-fn place(o: Seen) {
+fn place(rt: &impl Print, o: Seen) -> io::Result<()> {
     if o.buffer == seen::ANSWER {
-        io::write_all(STDOUT_FILENO, b", answer");
+        rt.write_all(b", answer")
     } else if o.buffer == seen::VALUE {
-        io::write_all(STDOUT_FILENO, b", value");
+        rt.write_all(b", value")
     } else {
-        io::write_all(STDOUT_FILENO, b", buffer ");
-        io::print_decimal(STDOUT_FILENO, o.buffer as u64);
-        io::write_all(STDOUT_FILENO, b", number ");
-        io::print_decimal(STDOUT_FILENO, o.index as u64);
+        rt.write_all(b", buffer ")?;
+        print!(rt; "{}", o.buffer)?;
+        rt.write_all(b", number ")?;
+        print!(rt; "{}", o.index)
     }
 }
 
 // A line whose results are not the expected ones: how many numbers differ, and the first.
-pub fn difference(line: u64, s: &[u8], o: Seen) {
-    io::write_all(STDOUT_FILENO, b"line ");
-    number(line, b": ");
-    name(s);
-    io::write_all(STDOUT_FILENO, b", ");
-    number(o.differ, b" differ");
-    place(o);
-    bits(b": expected ", o.want);
-    bits(b", found ", o.found);
-    io::write_all(STDOUT_FILENO, b"\n");
+pub fn difference(rt: &impl Print, line: u64, s: &[u8], o: Seen) -> io::Result<()> {
+    rt.write_all(b"line ")?;
+    number(rt, line, b": ")?;
+    name(rt, s)?;
+    rt.write_all(b", ")?;
+    number(rt, o.differ, b" differ")?;
+    place(rt, o)?;
+    bits(rt, b": expected ", o.want)?;
+    bits(rt, b", found ", o.found)?;
+    rt.write_all(b"\n")
 }
 
 // A line that is no comment and no call.
-pub fn bad(line: u64) {
-    io::write_all(STDOUT_FILENO, b"line ");
-    number(line, b": bad\n");
+pub fn bad(rt: &impl Print, line: u64) -> io::Result<()> {
+    rt.write_all(b"line ")?;
+    number(rt, line, b": bad\n")
 }
 
 // The counts at the end.
-pub fn counts(t: Tally) {
-    number(t.calls, b" calls, ");
-    number(t.numbers, b" numbers compared, ");
-    number(t.differ, b" differ\n");
-    number(t.bad, b" bad lines\n");
+pub fn counts(rt: &impl Print, t: Tally) -> io::Result<()> {
+    number(rt, t.calls, b" calls, ")?;
+    number(rt, t.numbers, b" numbers compared, ")?;
+    number(rt, t.differ, b" differ\n")?;
+    number(rt, t.bad, b" bad lines\n")
 }

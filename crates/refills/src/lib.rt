@@ -1,21 +1,48 @@
 // A buffer that is filled again and again: what is kept of one fill stands at the front of the next.
-ghost use Rattle.io.specs.Counts.{IsPrefixLen};
+#![tactic(auto)]
 
-use libc::STDIN_FILENO;
+ghost use Rattle.std.specs.Prelude.{◌≡◌, ◌<◌, ◌≤◌, length, take, IfOk};
+ghost use Rattle.std.specs.Io.{ReadsAtMost};
+ghost use Rattle.std.specs.Io.KnownBytes.{Consumes, IsAtEnd};
 
-// Reads behind the bytes that are kept: how many bytes there are then.
-pub fn refill(kept: usize, space: &mut [u8]) -> usize {
-    if space.len() < kept {
-        return 0;
+use std::io;
+use std::io::Read;
+
+// Reads until the space is full or the input ends: how many bytes there are at the front of the space
+// then. An error is one that a read gave.
+pub fn read_full<R: Read>(input: &mut R, space: &mut [u8]) -> io::Result<usize>
+    ensures in_bounds { ReadsAtMost result space.new }
+    ensures bytes { IfOk result (λ n. Consumes (R.remaining input.old) (R.remaining input.new) (take n space.new)) }
+    ensures end { IfOk result (λ n. n < length space.new → IsAtEnd (R.remaining input.new)) }
+{
+    let mut done: usize = 0;
+    while done < space.len() {
+        let n = input.read(&mut space[done..])?;
+        if n == 0 {
+            break;
+        }
+        done += n;
     }
-    let got = io::read_full(STDIN_FILENO, &mut space[kept..]);
-    kept + got
+    Ok(done)
+}
+
+// Reads behind the bytes that are kept: how many bytes there are then, or the error of a read. A space
+// that has no room for what is kept holds none.
+pub fn refill<R: Read>(input: &mut R, kept: usize, space: &mut [u8]) -> io::Result<usize>
+    ensures { ReadsAtMost result space.new }
+{
+    if space.len() < kept {
+        return Ok(0);
+    }
+    let got = read_full(input, &mut space[kept..])?;
+    Ok(kept + got)
 }
 
 // Where the lines to be read now end, of the first `got` bytes: behind the last newline where the
 // buffer is full and has one, else at the end of these bytes.
 pub fn lines_end(space: &[u8], got: usize) -> usize
-    ensures { IsPrefixLen result space.now }
+    ensures within { result ≤ length space.now }
+    ensures prefix { result ≡ length (take result space.now) }
 {
     if got < space.len() {
         return got;

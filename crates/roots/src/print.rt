@@ -1,43 +1,43 @@
-// What the program writes.
-use libc::STDOUT_FILENO;
+// What the program writes. An error is one that a write gave.
 use root_list::Tally;
+use std::io;
 
 // The number n, and words behind it.
-fn number(n: u64, words: &[u8]) {
-    io::print_decimal(STDOUT_FILENO, n);
-    io::write_all(STDOUT_FILENO, words);
+fn number(rt: &impl Print, n: u64, words: &[u8]) -> io::Result<()> {
+    print!(rt; "{n}")?;
+    rt.write_all(words)
 }
 
 // Words, and the pattern b behind them in eight hexadecimal digits.
-fn bits(words: &[u8], b: u32) {
-    io::write_all(STDOUT_FILENO, words);
-    io::print_hex(STDOUT_FILENO, b as u64, 8);
+fn bits(rt: &impl Print, words: &[u8], b: u32) -> io::Result<()> {
+    rt.write_all(words)?;
+    print!(rt; "{b:08x}")
 }
 
 // A line whose root is not the expected one.
-pub fn difference(line: u64, arg: u32, want: u32, found: u32) {
-    io::write_all(STDOUT_FILENO, b"line ");
-    number(line, b": the root of");
-    bits(b" ", arg);
-    bits(b": expected ", want);
-    bits(b", found ", found);
-    io::write_all(STDOUT_FILENO, b"\n");
+pub fn difference(rt: &impl Print, line: u64, arg: u32, want: u32, found: u32) -> io::Result<()> {
+    rt.write_all(b"line ")?;
+    number(rt, line, b": the root of")?;
+    bits(rt, b" ", arg)?;
+    bits(rt, b": expected ", want)?;
+    bits(rt, b", found ", found)?;
+    rt.write_all(b"\n")
 }
 
 // A line that is neither a pair nor a comment.
-pub fn bad(line: u64) {
-    io::write_all(STDOUT_FILENO, b"line ");
-    number(line, b": bad\n");
+pub fn bad(rt: &impl Print, line: u64) -> io::Result<()> {
+    rt.write_all(b"line ")?;
+    number(rt, line, b": bad\n")
 }
 
 // An input that may have been cut off.
-pub fn too_long() {
-    io::write_all(STDOUT_FILENO, b"input too long\n");
+pub fn too_long(rt: &impl Print) -> io::Result<()> {
+    rt.write_all(b"input too long\n")
 }
 
 // The counts at the end.
-pub fn counts(t: Tally) {
-    number(t.compared, b" compared, ");
-    number(t.differ, b" differ\n");
-    number(t.bad, b" bad lines\n");
+pub fn counts(rt: &impl Print, t: Tally) -> io::Result<()> {
+    number(rt, t.compared, b" compared, ")?;
+    number(rt, t.differ, b" differ\n")?;
+    number(rt, t.bad, b" bad lines\n")
 }

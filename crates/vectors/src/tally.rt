@@ -3,36 +3,38 @@ use crate::line;
 use list_tally::print;
 use list_tally::tally::Tally;
 use lists::seen::one_more;
+use std::io;
 
-// The counts with a line more, of which the first ten that differ or are bad are written.
-pub fn add_line(t: Tally, s: &[u8]) -> Tally {
+// The counts with a line more, of which the first ten that differ or are bad are written. An error is one
+// that a write gave, here and below.
+pub fn add_line(rt: &impl Print, t: Tally, s: &[u8]) -> io::Result<Tally> {
     if lines::byte_at(s, 0) == b'#' {
-        return t.comment();
+        return Ok(t.comment());
     }
     let o = line::compare(s);
     if o.next != s.len() {
         if t.told < 10 {
-            print::bad(one_more(t.lines));
+            print::bad(rt, one_more(t.lines))?;
         }
-        return t.bad().tell();
+        return Ok(t.bad().tell());
     }
     if o.differ == 0 {
-        return t.call(o);
+        return Ok(t.call(o));
     }
     if t.told < 10 {
-        print::difference(one_more(t.lines), s, o);
+        print::difference(rt, one_more(t.lines), s, o)?;
     }
-    t.call(o).tell()
+    Ok(t.call(o).tell())
 }
 
 // The counts with all lines of s more. The last line may lack its newline.
-pub fn add_lines(t: Tally, s: &[u8]) -> Tally {
+pub fn add_lines(rt: &impl Print, t: Tally, s: &[u8]) -> io::Result<Tally> {
     let mut all = t;
     let mut at: usize = 0;
     while at < s.len() {
         let end = lines::line_end(s, at);
-        all = add_line(all, &s[at..end]);
+        all = add_line(rt, all, &s[at..end])?;
         at = end + 1;
     }
-    all
+    Ok(all)
 }
