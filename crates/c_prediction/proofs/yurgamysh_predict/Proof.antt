@@ -6,23 +6,23 @@ use Rattle.c_prediction.proofs.yurgamysh_predict.Tie as tie
 predict-requires : tie.Need-predict-requires
 predict-requires c κs = search rules
 
-code-of-requires : tie.Need-code-of-requires
-code-of-requires c κs = search rules
+code_of-requires : tie.Need-code_of-requires
+code_of-requires c κs = search rules
 
-same_length : tie.Need-same-length
-same_length c = c.before.before.before.before.before.before.before.before.x.given
+shape_of-x : tie.Need-shape_of-x
+shape_of-x c = c.x-1.given
 
-same-length-2 : tie.Need-same-length-2
-same-length-2 c = c.before.before.before.before.before.before.p.given
+shape_of-p : tie.Need-shape_of-p
+shape_of-p c = c.p-1.given
 
-same-length-3 : tie.Need-same-length-3
-same-length-3 c = c.before.before.before.before.predicted.given
+shape_of-predicted : tie.Need-shape_of-predicted
+shape_of-predicted c = c.predicted-1.given
 
-same-length-4 : tie.Need-same-length-4
-same-length-4 c = c.before.before.temp.given
+shape_of-temp : tie.Need-shape_of-temp
+shape_of-temp c = c.temp-1.given
 
 returns : tie.Need-returns
-returns c = record { answer = _; code = c.code_of.ensures; kept = c.before.before.before.before.before.before.before.before.before.predict.ensures }
+returns c = record { answer = _; code = c.code_of.ensures; kept = c.predict.ensures }
 
-pub yurgamysh-predict-spec : {M : Type 1} → statement M
-yurgamysh-predict-spec = tie.close (tie.spec predict-requires code-of-requires same_length same-length-2 same-length-3 same-length-4 returns)
+pub yurgamysh_predict_spec : {M : Type 1} → statement M
+yurgamysh_predict_spec = tie.close (tie.spec predict-requires code_of-requires shape_of-x shape_of-p shape_of-predicted shape_of-temp returns)

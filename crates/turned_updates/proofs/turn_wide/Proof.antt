@@ -9,16 +9,15 @@ use Rattle.grids.proofs.Grids.{grid-cell}
 use Rattle.turned_updates.proofs.turn_wide.Statement.{statement}
 use Rattle.turned_updates.proofs.turn_wide.Tie as tie
 
+returns-then-m-lt4 : tie.Need-returns-then-m-lt4
+returns-then-m-lt4 c = λ many. absurd (omega (arith, many, c.if-m-lt4.true))
+
 returns : tie.Need-returns
-returns c = λ many. absurd (omega (arith, many, c.if1.true))
-
-returns-2 : tie.Need-returns-2
-returns-2 c =
-    let start = c.before.before.before.before.before.before.before in
-    let a = start.args in
+returns c =
+    let a = c.args in
     λ many k j hk hj. sym
-    (ap (λ (l : List Float). cell a.m l k j) c.before.before.turn.ensures
-    ∙ grid-cell a.n a.m (λ k j. cell a.n a.h.now j k) a.t.now k j hk hj start.requires.1)
+    (ap (λ (l : List Float). cell a.m l k j) c.turn.ensures
+    ∙ grid-cell a.n a.m (λ k j. cell a.n a.h.now j k) a.t.now k j hk hj c.requires.1)
 
-pub turn-wide-spec : {M : Type 1} → statement M
-turn-wide-spec = tie.close (tie.spec returns (λ c κs. search rules) (λ c. search rules) returns-2)
+pub turn_wide_spec : {M : Type 1} → statement M
+turn_wide_spec = tie.close (tie.spec returns-then-m-lt4 (λ c κs. search rules) (λ c. search rules) returns)

@@ -5,39 +5,38 @@ use lib.Ieee.{binary32}
 use Rattle.turned_updates.proofs.gain.gain_turned.Statement.{statement}
 use Rattle.turned_updates.proofs.gain.gain_turned.Tie as tie
 
-invert-cells-requires : tie.Need-invert-cells-requires
-invert-cells-requires c κs = search rules
+invert_cells-requires : tie.Need-invert_cells-requires
+invert_cells-requires c κs = search rules
 
-by-turned-requires : tie.Need-by-turned-requires
-by-turned-requires c κs = search rules
+by_turned-requires : tie.Need-by_turned-requires
+by_turned-requires c κs = search rules
 
-mult-cells-requires : tie.Need-mult-cells-requires
-mult-cells-requires c κs = search rules
+mult_cells-requires : tie.Need-mult_cells-requires
+mult_cells-requires c κs = search rules
 
-same_length : tie.Need-same-length
-same_length c = c.before.k.given
+shape_of-k : tie.Need-shape_of-k
+shape_of-k c = c.k-1.given
 
-same-length-2 : tie.Need-same-length-2
-same-length-2 c = c.before.before.before.before.before.before.before.before.before.before.before.temp-s-inv.given
+shape_of-temp_s_inv : tie.Need-shape_of-temp_s_inv
+shape_of-temp_s_inv c = c.temp_s_inv-1.given
 
-same-length-3 : tie.Need-same-length-3
-same-length-3 c = c.before.before.before.before.before.before.before.temp-pht.given
+shape_of-temp_pht : tie.Need-shape_of-temp_pht
+shape_of-temp_pht c = c.temp_pht-1.given
 
 returns : tie.Need-returns
 returns c =
-    let t = c.before.before.before.before.before.before.before.before in
-    let i = t.before.before.before.before.invert-cells.ensures in
-    let a = t.before.before.before.before.before.before.before.before.before.before.before.before.before.args in
-    (i, (t.by_turned.ensures, gain binary32 a.n a.m a.p.now a.h.now a.s.now a.temp-s-inv.now a.k.now a.temp-pht.now _ _ (omega arith) (omega arith) i t.by_turned.ensures c.before.before.mult-cells.ensures))
+    let i = c.invert_cells.ensures in
+    let a = c.args in
+    (i, (c.by_turned.ensures, gain binary32 a.n a.m a.p.now a.h.now a.s.now a.temp_s_inv.now a.k.now a.temp_pht.now _ _ (omega arith) (omega arith) i c.by_turned.ensures c.mult_cells.ensures))
 
-pub gain-turned-spec : {M : Type 1} → statement M
-gain-turned-spec =
+pub gain_turned_spec : {M : Type 1} → statement M
+gain_turned_spec =
     tie.close
     (tie.spec
-    invert-cells-requires
-    by-turned-requires
-    mult-cells-requires
-    same_length
-    same-length-2
-    same-length-3
+    invert_cells-requires
+    by_turned-requires
+    mult_cells-requires
+    shape_of-k
+    shape_of-temp_s_inv
+    shape_of-temp_pht
     returns)
