@@ -4,26 +4,26 @@ use Rattle.c_feeders.proofs.Counted.{all_said, part_said, refused_said}
 use Rattle.c_feeders.proofs.said.Statement.{statement}
 use Rattle.c_feeders.proofs.said.Tie as tie
 
-enum-known-c : tie.Need-enum-known-c
-enum-known-c c = search rules
+enum_known-c : tie.Need-enum_known-c
+enum_known-c c = search rules
 
-enum-known-c-2 : tie.Need-enum-known-c-2
-enum-known-c-2 c = search rules
+enum_known-c-in-Part-1 : tie.Need-enum_known-c-in-Part-1
+enum_known-c-in-Part-1 c = search rules
 
-enum-known-c-3 : tie.Need-enum-known-c-3
-enum-known-c-3 c = search rules
+enum_known-c-in-Refused-1 : tie.Need-enum_known-c-in-Refused-1
+enum_known-c-in-Refused-1 c = search rules
 
-code-of-requires : tie.Need-code-of-requires
-code-of-requires c κs = search rules
+code_of-requires : tie.Need-code_of-requires
+code_of-requires c κs = search rules
 
-returns : tie.Need-returns
-returns c = all_said _ _ _ c.before.c.given.1
+returns-in-All : tie.Need-returns-in-All
+returns-in-All c = all_said _ _ _ c.in-All.is
 
-returns-2 : tie.Need-returns-2
-returns-2 c = part_said _ _ _ _ c.before.c2.given.1
+returns-in-Part : tie.Need-returns-in-Part
+returns-in-Part c = part_said _ _ _ _ c.in-Part.is
 
-returns-3 : tie.Need-returns-3
-returns-3 c = refused_said _ _ _ _ c.before.before.c3.given.1 c.code_of.ensures
+returns-in-Refused : tie.Need-returns-in-Refused
+returns-in-Refused c = refused_said _ _ _ _ c.in-Refused.is c.code_of.ensures
 
-pub said-spec : {M : Type 1} → statement M
-said-spec = tie.close (tie.spec enum-known-c enum-known-c-2 enum-known-c-3 code-of-requires returns returns-2 returns-3)
+pub said_spec : {M : Type 1} → statement M
+said_spec = tie.close (tie.spec enum_known-c enum_known-c-in-Part-1 enum_known-c-in-Refused-1 code_of-requires returns-in-All returns-in-Part returns-in-Refused)

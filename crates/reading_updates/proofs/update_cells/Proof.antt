@@ -14,32 +14,31 @@ use Rattle.reading_updates.proofs.update_cells.Tie as tie
 abbrev lent : tie.Start → Buffers
 lent s =
     let a = s.args in
-    buffers a.x.now a.p.now a.h.now [] a.r.now a.y.now a.s.now a.k.now a.temp-s-inv.now a.temp-hp.now a.temp-pht.now a.temp-khp.now
+    buffers a.x.now a.p.now a.h.now [] a.r.now a.y.now a.s.now a.k.now a.temp_s_inv.now a.temp_hp.now a.temp_pht.now a.temp_khp.now
 
 -- and as the update of three observations leaves them
-abbrev left : tie.After-update-three → Buffers
+abbrev left : tie.After-update_three → Buffers
 left d =
-    let a = d.before.before.before.before.before.before.before.before.before.before.before.before.before.before.before.before.before.before.before.before.before.args in
-    let l = d.update-three.new in
+    let a = d.args in
+    let l = d.update_three.new in
     buffers l.1.0 l.1.1.0 a.h.now [] a.r.now a.y.now l.1.1.1.1.1.1.0 l.1.1.1.1.1.1.1.0 l.1.1.1.1.1.1.1.1.0 l.1.1.1.1.1.1.1.1.1.0 l.1.1.1.1.1.1.1.1.1.1.0 l.1.1.1.1.1.1.1.1.1.1.1.0
 
-update-three-requires : tie.Need-update-three-requires
-update-three-requires c κs =
+update_three-requires : tie.Need-update_three-requires
+update_three-requires c κs =
     let s = c.before.before.before.before.before.before.before.before.before.before.before.before.before.before.before.before.before.before.before.before in
-    subst (λ (i : ℕ). Held s.args.n i (lent s)) c.before.before.before.before.before.before.before.before.if1.true s.requires
+    subst (λ (i : ℕ). Held s.args.n i (lent s)) c.if-m-eq3.true s.requires
 
-returns : tie.Need-returns
-returns c =
+returns-then-m-eq3 : tie.Need-returns-then-m-eq3
+returns-then-m-eq3 c =
     let d = c.before.before.before.before.before.before.before.before.before.before.before.before.before.before.before.before in
-    let t = c.before.before.before.before.before.before.before.before.before.before.before.before.before.before.before.before.before.before.before.before.before.before.before.before.before in
     let s = c.before.before.before.before.before.before.before.before.before.before.before.before.before.before.before.before.before.before.before.before.before.before.before.before.before.before.before.before.before.before.before.before.before.before.before.before.before in
-    subst (λ (i : ℕ). Renewed binary32 s.args.n i Done d.update-three.result (lent s) (left d)) (sym t.if1.true) d.update-three.ensures
+    subst (λ (i : ℕ). Renewed binary32 s.args.n i Done d.update_three.result (lent s) (left d)) (sym c.if-m-eq3.true) d.update_three.ensures
 
-pub update-cells-spec : {M : Type 1} → statement M
-update-cells-spec =
+pub update_cells_spec : {M : Type 1} → statement M
+update_cells_spec =
     tie.close
     (tie.spec
-    update-three-requires
+    update_three-requires
     (λ c. search rules)
     (λ c. search rules)
     (λ c. search rules)
@@ -48,7 +47,7 @@ update-cells-spec =
     (λ c. search rules)
     (λ c. search rules)
     (λ c. search rules)
-    returns
+    returns-then-m-eq3
     (λ c κs. search rules)
     (λ c. search rules)
     (λ c. search rules)

@@ -51,9 +51,8 @@ returns-in-9 c = rw c.in-9.is
 
 returns-in_default : tie.Need-returns-in_default
 returns-in_default c =
-    let none = c.in_default.rest in
     sym (get_or-eq_default readings Lost
-    (from_10 _ (from_5 _ none.0.0.0.0.0.0.0.0.0.1 none.0.0.0.0.0.0.0.0.1 none.0.0.0.0.0.0.0.1 none.0.0.0.0.0.0.1 none.0.0.0.0.0.1) none.0.0.0.0.1 none.0.0.0.1 none.0.0.1 none.0.1 none.1))
+    (from_10 _ (from_5 _ (λ e. omega arith) (λ e. omega arith) (λ e. omega arith) (λ e. omega arith) (λ e. omega arith)) (λ e. omega arith) (λ e. omega arith) (λ e. omega arith) (λ e. omega arith) (λ e. omega arith)))
 
 pub arriving_spec : {M : Type 1} → statement M
 arriving_spec =
