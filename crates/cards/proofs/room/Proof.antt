@@ -16,7 +16,7 @@ then_matrix-q-requires c κs = search rules
 then_matrix-h-requires : tie.Need-then_matrix-h-requires
 then_matrix-h-requires c κs = search rules
 
-then_matrix-requires : tie.Need-then_matrix-a-requires
+then_matrix-requires : tie.Need-then_matrix-requires
 then_matrix-requires c κs = search rules
 
 returns : tie.Need-returns
@@ -27,7 +27,7 @@ returns c =
     (asked (buffer_test 2 (a.m * a.n) a.lh)
     (asked (buffer_test 1 (a.n * a.n) a.lq) c.then_matrix-a.ensures c.then_matrix-q.ensures)
     c.then_matrix-h.ensures)
-    c.then_matrix-a.ensures
+    c.then_matrix.ensures
 
 pub room_spec : {M : Type 1} → statement M
 room_spec =

@@ -74,7 +74,7 @@ overflow_add-at_r c =
 overflow_mul-m-2 : tie.Need-overflow_mul-m-2
 overflow_mul-m-2 c = search rules
 
-fill-requires : tie.Need-fill-at_q-requires
+fill-requires : tie.Need-fill-requires
 unfolding ends
 fill-requires c κs =
     (key_within c.args.s.now _ 6 (here_r c.before.before.before) 8 (c.args.m * c.args.m) r_key refl c.requires.1.r, fields_here c.args.s.now _ 6 (here_r c.before.before.before) 8 (c.args.m * c.args.m) r_key refl c.requires.1.r, c.requires.5)
@@ -99,7 +99,7 @@ returns c = (
     c.fill-at_h.ensures.1 ∙ ap (λ (es : List ℕ). run 0 (c.args.n * c.args.n) (floats binary32 es) c.args.q.now) (says_here c.args.s.now _ 4 (here_q c.before.before.before.before.before.before.before.before.before.before.before.before.before.before) 8 (c.args.n * c.args.n) q_key refl c.requires.1.q),
     (
       c.fill-at_r.ensures.1 ∙ ap (λ (es : List ℕ). run 0 (c.args.m * c.args.n) (floats binary32 es) c.args.h.now) (says_here c.args.s.now _ 5 (here_h c.before.before.before.before.before.before.before.before.before.before) 8 (c.args.m * c.args.n) h_key refl c.requires.1.h),
-      c.fill-at_q.ensures.1 ∙ ap (λ (es : List ℕ). run 0 (c.args.m * c.args.m) (floats binary32 es) c.args.r.now) (says_here c.args.s.now _ 6 (here_r c.before.before.before.before.before.before) 8 (c.args.m * c.args.m) r_key refl c.requires.1.r),
+      c.fill.ensures.1 ∙ ap (λ (es : List ℕ). run 0 (c.args.m * c.args.m) (floats binary32 es) c.args.r.now) (says_here c.args.s.now _ 6 (here_r c.before.before.before.before.before.before) 8 (c.args.m * c.args.m) r_key refl c.requires.1.r),
     ),
   ),
 )
