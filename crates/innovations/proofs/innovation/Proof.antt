@@ -8,37 +8,37 @@ use Rattle.innovations.proofs.innovation.Statement.{statement}
 use Rattle.innovations.proofs.innovation.Tie as tie
 
 -- n and m are taken and the buffers hold what they are to hold
-shape : (c : tie.Then1) → let a = c.before.before.before.before.before.before.before.args in Observed a.n a.m (length a.x.now) (length a.h.now) (length a.z.now) (length a.y.now)
-shape c = innovation_fits _ _ _ _ _ _ (accepted c.before.before.innovation.ensures c.before.is-done.ensures c.if1.true)
+shape : (c : tie.Then-is_done) → let a = c.args in Observed a.n a.m (length a.x.now) (length a.h.now) (length a.z.now) (length a.y.now)
+shape c = innovation_fits _ _ _ _ _ _ (accepted c.innovation-v.ensures c.is_done.ensures c.if-is_done.true)
 
-innovation-requires : tie.Need-innovation-requires
-innovation-requires c κs = search rules
+innovation-v-requires : tie.Need-innovation-v-requires
+innovation-v-requires c κs = search rules
 
-is-done-requires : tie.Need-is-done-requires
-is-done-requires c κs = search rules
+is_done-requires : tie.Need-is_done-requires
+is_done-requires c κs = search rules
 
-innovate-cells-requires : tie.Need-innovate-cells-requires
-innovate-cells-requires c κs = let s = shape c.before in (s.states, s.x_holds, s.h_holds, s.z_holds, s.y_holds)
+innovate_cells-requires : tie.Need-innovate_cells-requires
+innovate_cells-requires c κs = let s = shape c.before in (s.states, s.x_holds, s.h_holds, s.z_holds, s.y_holds)
 
-same_length : tie.Need-same-length
-same_length c = c.before.y.given
+shape_of-y : tie.Need-shape_of-y
+shape_of-y c = c.y-1.given
 
-returns : tie.Need-returns
-returns c = record {
-  answer = c.before.before.before.before.before.before.innovation.ensures;
-  after = simp (sym c.before.before.before.before.before.is-done.ensures ∙ c.before.before.before.before.if1.true) c.before.before.innovate-cells.ensures;
+returns-then-is_done : tie.Need-returns-then-is_done
+returns-then-is_done c = record {
+  answer = c.innovation-v.ensures;
+  after = simp (sym c.is_done.ensures ∙ c.if-is_done.true) c.innovate_cells.ensures;
 }
 
-returns-2 : tie.Need-returns-2
-returns-2 c = record { answer = c.before.before.innovation.ensures; after = simp (sym c.before.is-done.ensures ∙ c.if1.false) }
+returns-else-is_done : tie.Need-returns-else-is_done
+returns-else-is_done c = record { answer = c.innovation-v.ensures; after = simp (sym c.is_done.ensures ∙ c.if-is_done.false) }
 
-pub innovation-spec : {M : Type 1} → statement M
-innovation-spec =
+pub innovation_spec : {M : Type 1} → statement M
+innovation_spec =
     tie.close
     (tie.spec
-    innovation-requires
-    is-done-requires
-    innovate-cells-requires
-    same_length
-    returns
-    returns-2)
+    innovation-v-requires
+    is_done-requires
+    innovate_cells-requires
+    shape_of-y
+    returns-then-is_done
+    returns-else-is_done)

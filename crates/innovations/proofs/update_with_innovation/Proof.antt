@@ -14,92 +14,92 @@ use Rattle.innovations.proofs.update_with_innovation.Tie as tie
 
 -- ---- the way back from each call to the one before it
 
-abbrev start : tie.After-update → tie.Start
+abbrev start : tie.After-update-v → tie.Start
 start c = c.before.before.before.before.before.before.before.before.before.before.before.before
 
-abbrev gate : tie.Then1 → tie.After-update
+abbrev gate : tie.Then-is_done → tie.After-update-v
 gate c = c.before.before
 
-abbrev then : tie.After-update-cells → tie.Then1
+abbrev then : tie.After-update_cells → tie.Then-is_done
 then c = c.before.before.before.before.before.before.before.before.before
 
 -- the buffers as lent
 abbrev lent : tie.Start → Buffers
 lent s =
     let a = s.args in
-    buffers a.x.now a.p.now a.h.now [] a.r.now a.y.now a.s.now a.k.now a.temp-s-inv.now a.temp-hp.now a.temp-pht.now a.temp-khp.now
+    buffers a.x.now a.p.now a.h.now [] a.r.now a.y.now a.s.now a.k.now a.temp_s_inv.now a.temp_hp.now a.temp_pht.now a.temp_khp.now
 
 -- the answer at the door
-answered : (c : tie.After-update) → let s = start c in c.update.result ≡ update_answer s.args.n s.args.m (lent s)
+answered : (c : tie.After-update-v) → let s = start c in c.update-v.result ≡ update_answer s.args.n s.args.m (lent s)
 unfolding update_answer
-answered c = c.update.ensures
+answered c = c.update-v.ensures
 
 -- the sizes are taken and the buffers hold their matrices
-done : (c : tie.Then1) → let s = start (gate c) in is_done (update_answer s.args.n s.args.m (lent s)) ≡ true
-done c = accepted (answered (gate c)) c.before.is-done.ensures c.if1.true
+done : (c : tie.Then-is_done) → let s = start (gate c) in is_done (update_answer s.args.n s.args.m (lent s)) ≡ true
+done c = accepted (answered (gate c)) c.is_done.ensures c.if-is_done.true
 
-update-requires : tie.Need-update-requires
-update-requires c κs = search rules
+update-v-requires : tie.Need-update-v-requires
+update-v-requires c κs = search rules
 
-is-done-requires : tie.Need-is-done-requires
-is-done-requires c κs = search rules
+is_done-requires : tie.Need-is_done-requires
+is_done-requires c κs = search rules
 
-update-cells-requires : tie.Need-update-cells-requires
-update-cells-requires c κs =
+update_cells-requires : tie.Need-update_cells-requires
+update_cells-requires c κs =
     let t = c.before.before.before.before.before.before.before.before in
     update_fits _ _ (lent (start (gate t))) (done t)
 
-same_length : tie.Need-same-length
-same_length c = c.before.before.before.before.before.before.before.before.before.before.before.before.before.before.before.x.given
+shape_of-x-then-is_done : tie.Need-shape_of-x-then-is_done
+shape_of-x-then-is_done c = c.x-1.given
 
-same-length-2 : tie.Need-same-length-2
-same-length-2 c = c.before.before.before.before.before.before.before.before.before.before.before.before.before.p.given
+shape_of-p-then-is_done : tie.Need-shape_of-p-then-is_done
+shape_of-p-then-is_done c = c.p-1.given
 
-same-length-3 : tie.Need-same-length-3
-same-length-3 c = c.before.before.before.before.before.before.before.before.before.before.before.s.given
+shape_of-s-then-is_done : tie.Need-shape_of-s-then-is_done
+shape_of-s-then-is_done c = c.s-1.given
 
-same-length-4 : tie.Need-same-length-4
-same-length-4 c = c.before.before.before.before.before.before.before.before.before.k.given
+shape_of-k-then-is_done : tie.Need-shape_of-k-then-is_done
+shape_of-k-then-is_done c = c.k-1.given
 
-same-length-5 : tie.Need-same-length-5
-same-length-5 c = c.before.before.before.before.before.before.before.temp-s-inv.given
+shape_of-temp_s_inv-then-is_done : tie.Need-shape_of-temp_s_inv-then-is_done
+shape_of-temp_s_inv-then-is_done c = c.temp_s_inv-1.given
 
-same-length-6 : tie.Need-same-length-6
-same-length-6 c = c.before.before.before.before.before.temp-hp.given
+shape_of-temp_hp-then-is_done : tie.Need-shape_of-temp_hp-then-is_done
+shape_of-temp_hp-then-is_done c = c.temp_hp-1.given
 
-same-length-7 : tie.Need-same-length-7
-same-length-7 c = c.before.before.before.temp-pht.given
+shape_of-temp_pht-then-is_done : tie.Need-shape_of-temp_pht-then-is_done
+shape_of-temp_pht-then-is_done c = c.temp_pht-1.given
 
-same-length-8 : tie.Need-same-length-8
-same-length-8 c = c.before.temp-khp.given
+shape_of-temp_khp-then-is_done : tie.Need-shape_of-temp_khp-then-is_done
+shape_of-temp_khp-then-is_done c = c.temp_khp-1.given
 
-returns : tie.Need-returns
-returns c =
+returns-then-is_done : tie.Need-returns-then-is_done
+returns-then-is_done c =
     let u = c.before.before.before.before.before.before.before.before.before.before.before.before.before.before.before.before in
     let t = then u in
     let s = start (gate t) in
-    update_past binary32 s.args.n s.args.m (lent s) _ _ (done t) refl u.update-cells.ensures
+    update_past binary32 s.args.n s.args.m (lent s) _ _ (done t) refl u.update_cells.ensures
 
-returns-2 : tie.Need-returns-2
-returns-2 c =
+returns : tie.Need-returns
+returns c =
     let g = c.before.before in
     let s = start g in
-    update_refused binary32 s.args.n s.args.m (lent s) _ (answered g) (sym c.before.is-done.ensures ∙ c.if1.false)
+    update_refused binary32 s.args.n s.args.m (lent s) _ (answered g) (sym c.is_done.ensures ∙ c.if-is_done.false)
 
-pub update-with-innovation-spec : {M : Type 1} → statement M
-update-with-innovation-spec =
+pub update_with_innovation_spec : {M : Type 1} → statement M
+update_with_innovation_spec =
     tie.close
     (tie.spec
-    update-requires
-    is-done-requires
-    update-cells-requires
-    same_length
-    same-length-2
-    same-length-3
-    same-length-4
-    same-length-5
-    same-length-6
-    same-length-7
-    same-length-8
-    returns
-    returns-2)
+    update-v-requires
+    is_done-requires
+    update_cells-requires
+    shape_of-x-then-is_done
+    shape_of-p-then-is_done
+    shape_of-s-then-is_done
+    shape_of-k-then-is_done
+    shape_of-temp_s_inv-then-is_done
+    shape_of-temp_hp-then-is_done
+    shape_of-temp_pht-then-is_done
+    shape_of-temp_khp-then-is_done
+    returns-then-is_done
+    returns)
