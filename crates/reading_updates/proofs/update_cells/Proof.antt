@@ -10,29 +10,18 @@ use borrow.Author.Rules.{rules}
 use Rattle.reading_updates.proofs.update_cells.Statement.{statement}
 use Rattle.reading_updates.proofs.update_cells.Tie as tie
 
--- the buffers as lent
-abbrev lent : tie.Start → Buffers
-lent s =
-    let a = s.args in
-    buffers a.x.now a.p.now a.h.now [] a.r.now a.y.now a.s.now a.k.now a.temp_s_inv.now a.temp_hp.now a.temp_pht.now a.temp_khp.now
-
--- and as the update of three observations leaves them
-abbrev left : tie.After-update_three → Buffers
-left d =
-    let a = d.args in
-    let l = d.update_three.new in
-    buffers l.1.0 l.1.1.0 a.h.now [] a.r.now a.y.now l.1.1.1.1.1.1.0 l.1.1.1.1.1.1.1.0 l.1.1.1.1.1.1.1.1.0 l.1.1.1.1.1.1.1.1.1.0 l.1.1.1.1.1.1.1.1.1.1.0 l.1.1.1.1.1.1.1.1.1.1.1.0
-
 update_three-requires : tie.Need-update_three-requires
 update_three-requires c κs =
-    let s = c.before.before.before.before.before.before.before.before.before.before.before.before.before.before.before.before.before.before.before.before in
-    subst (λ (i : ℕ). Held s.args.n i (lent s)) c.if-m-eq3.true s.requires
+    let a = c.args in
+    subst (λ (i : ℕ). Held a.n i (buffers a.x.now a.p.now a.h.now [] a.r.now a.y.now a.s.now a.k.now a.temp_s_inv.now a.temp_hp.now a.temp_pht.now a.temp_khp.now)) c.if-m-eq3.true c.requires
 
+-- the buffers as lent, and as the update of three observations leaves them
 returns-then-m-eq3 : tie.Need-returns-then-m-eq3
 returns-then-m-eq3 c =
-    let d = c.before.before.before.before.before.before.before.before.before.before.before.before.before.before.before.before in
-    let s = c.before.before.before.before.before.before.before.before.before.before.before.before.before.before.before.before.before.before.before.before.before.before.before.before.before.before.before.before.before.before.before.before.before.before.before.before.before in
-    subst (λ (i : ℕ). Renewed binary32 s.args.n i Done d.update_three.result (lent s) (left d)) (sym c.if-m-eq3.true) d.update_three.ensures
+    let a = c.args in
+    let l = c.update_three.new in
+    subst (λ (i : ℕ). Renewed binary32 a.n i Done c.update_three.result (buffers a.x.now a.p.now a.h.now [] a.r.now a.y.now a.s.now a.k.now a.temp_s_inv.now a.temp_hp.now a.temp_pht.now a.temp_khp.now)
+        (buffers l.x l.p a.h.now [] a.r.now a.y.now l.s l.k l.temp_s_inv l.temp_hp l.temp_pht l.temp_khp)) (sym c.if-m-eq3.true) c.update_three.ensures
 
 pub update_cells_spec : {M : Type 1} → statement M
 update_cells_spec =
