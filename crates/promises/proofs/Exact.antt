@@ -2,7 +2,7 @@
 -- Assumes nothing.
 use mathlib.Core.Path.{◌≡◌, sym, ap, ◌∙◌, subst}
 use mathlib.Core.List.{List}
-use Prim.Native.Nat.{ℕ, suc, ◌+◌, ◌*◌, ◌≤◌, ◌<◌}
+use Prim.Native.Nat.{ℕ, zero, suc, ◌+◌, ◌*◌, ◌≤◌, ◌<◌}
 use native.Mathlib.Nat.{zero-add, suc-mul}
 use native.Mathlib.Decide.{dec_lt}
 use native.Mathlib.Omega.{arith}
@@ -28,9 +28,11 @@ within l i z w = elim (dec_lt i (length l)) [
 ]
 
 column_fits : (n : ℕ) (l : List Float) (v : Column) → 1 ≤ n → HoldsColumn n l v → n ≤ length l
+column_fits zero l v one h = elim one [ ]
 column_fits (suc m) l v one h = within l m (v m) (h m (omega arith))
 
 matrix_fits : (n : ℕ) (l : List Float) (m : Matrix) → 1 ≤ n → HoldsMatrix n l m → n * n ≤ length l
+matrix_fits zero l v one h = elim one [ ]
 matrix_fits (suc m) l v one h =
     let k : m * suc m + m < length l = within l (m * suc m + m) (v m m) (h m m (omega arith) (omega arith)) in
     omega (arith, suc-mul m (suc m))
@@ -42,6 +44,7 @@ front-cell n g l r lt fits = ap (λ (i : ℕ). get_or (run 0 n g l) i nan) (sym 
 -- a sum from the first product
 first_exact : (f : Format) (n : ℕ) (u v : ℕ → Float) (a b : ℕ → ℤ) → 1 ≤ n → ((k : ℕ) → k < n → Whole (u k) (a k)) → ((k : ℕ) → k < n → Whole (v k) (b k))
     → abs_sum (productsℤ a b) n ≤ limit f → Whole (sum_of_first f (products f u v) n) (sumℤ (pos 0) (productsℤ a b) n)
+first_exact f zero u v a b one hu hv small = elim one [ ]
 first_exact f (suc m) u v a b one hu hv small = dot_from_first f u v a b m hu hv small
 
 -- a sum, and one number more

@@ -19,16 +19,16 @@ use Rattle.reading_cells.proofs.correct_cells.Tie as tie
 
 -- ---- where the function began, from each of its cases
 
-abbrev begun : tie.After-slice-known9 → tie.Start
+abbrev begun : tie.After-slice_known-9-1 → tie.Start
 begun c = c.before.before.before.before.before.before.before.before.before.before.before.before
 
-abbrev start1 : tie.Then2 → tie.Start
+abbrev start1 : tie.Then-m-eq1 → tie.Start
 start1 c = begun c.before.before
 
-abbrev start2 : tie.Then4 → tie.Start
+abbrev start2 : tie.Then-m-eq2 → tie.Start
 start2 c = begun c.before.before.before
 
-abbrev start3 : tie.Joined3 → tie.Start
+abbrev start3 : tie.Joined-else-n-eq4 → tie.Start
 start3 c = begun c.before.before
 
 -- ---- k states and l observations in the place of n and m
@@ -37,7 +37,7 @@ start3 c = begun c.before.before
 abbrev lent : tie.Start → Buffers
 lent s =
     let a = s.args in
-    buffers a.x.now a.p.now a.h.now [] a.r.now a.y.now a.s.now a.k.now a.temp-s-inv.now a.temp-hp.now a.temp-pht.now a.temp-khp.now
+    buffers a.x.now a.p.now a.h.now [] a.r.now a.y.now a.s.now a.k.now a.temp_s_inv.now a.temp_hp.now a.temp_pht.now a.temp_khp.now
 
 -- they hold what they are to hold
 abbrev Fits : tie.Start → ℕ → ℕ → Type 0
@@ -56,53 +56,53 @@ Left s v e k l =
 left : (s : tie.Start) (k l : ℕ) {v : Answer} {e : Buffers} → s.args.n ≡ k → s.args.m ≡ l → Left s v e k l → Left s v e s.args.n s.args.m
 left s k l {v} {e} p q h = subst (Left s v e s.args.n) (sym q) (subst (λ (i : ℕ). Left s v e i l) (sym p) h)
 
-abbrev end1 : tie.After-correct-two → Buffers
+abbrev end1 : tie.After-correct_two → Buffers
 end1 d =
-    let a = (start1 d.before.before.before.before.before.before.before.before.before.before).args in
-    let l = d.correct-two.new in
-    buffers l.0 l.1.0 a.h.now [] a.r.now l.1.1.1.1.1.0 l.1.1.1.1.1.1.0 l.1.1.1.1.1.1.1.0 l.1.1.1.1.1.1.1.1.0 l.1.1.1.1.1.1.1.1.1.0 l.1.1.1.1.1.1.1.1.1.1.0 l.1.1.1.1.1.1.1.1.1.1.1.0
+    let a = d.args in
+    let l = d.correct_two.new in
+    buffers l.x l.p a.h.now [] a.r.now l.y l.s l.k l.temp_s_inv l.temp_hp l.temp_pht l.temp_khp
 
-abbrev end2 : tie.After-correct-four → Buffers
+abbrev end2 : tie.After-correct_four → Buffers
 end2 d =
-    let a = (start2 d.before.before.before.before.before.before.before.before.before.before).args in
-    let l = d.correct-four.new in
-    buffers l.0 l.1.0 a.h.now [] a.r.now l.1.1.1.1.1.0 l.1.1.1.1.1.1.0 l.1.1.1.1.1.1.1.0 l.1.1.1.1.1.1.1.1.0 l.1.1.1.1.1.1.1.1.1.0 l.1.1.1.1.1.1.1.1.1.1.0 l.1.1.1.1.1.1.1.1.1.1.1.0
+    let a = d.args in
+    let l = d.correct_four.new in
+    buffers l.x l.p a.h.now [] a.r.now l.y l.s l.k l.temp_s_inv l.temp_hp l.temp_pht l.temp_khp
 
-pub correct-cells-spec : {M : Type 1} → statement M
-correct-cells-spec =
+pub correct_cells_spec : {M : Type 1} → statement M
+correct_cells_spec =
     tie.close
     (tie.spec
-    (λ c κs. let t = c.before.before.before.before.before.before.before.before.before in fits (start1 t) 2 1 t.before.if1.true (eqb-true _ _ t.if2.true))
-    (λ c. c.before.before.before.before.before.before.before.before.before.before.before.before.before.before.before.before.before.x.given)
-    (λ c. c.before.before.before.before.before.before.before.before.before.before.before.before.before.before.before.p.given)
-    (λ c. c.before.before.before.before.before.before.before.before.before.before.before.before.before.y.given)
-    (λ c. c.before.before.before.before.before.before.before.before.before.before.before.s.given)
-    (λ c. c.before.before.before.before.before.before.before.before.before.k.given)
-    (λ c. c.before.before.before.before.before.before.before.temp-s-inv.given)
-    (λ c. c.before.before.before.before.before.temp-hp.given)
-    (λ c. c.before.before.before.temp-pht.given)
-    (λ c. c.before.temp-khp.given)
-    (λ c. let d = c.before.before.before.before.before.before.before.before.before.before.before.before.before.before.before.before.before.before in let t = d.before.before.before.before.before.before.before.before.before.before in left (start1 t) 2 1 {e = end1 d} t.before.if1.true (eqb-true _ _ t.if2.true) d.correct-two.ensures)
-    (λ c κs. let t = c.before.before.before.before.before.before.before.before.before in fits (start2 t) 4 2 t.before.if3.true (eqb-true _ _ t.if4.true))
-    (λ c. c.before.before.before.before.before.before.before.before.before.before.before.before.before.before.before.before.before.x2.given)
-    (λ c. c.before.before.before.before.before.before.before.before.before.before.before.before.before.before.before.p2.given)
-    (λ c. c.before.before.before.before.before.before.before.before.before.before.before.before.before.y2.given)
-    (λ c. c.before.before.before.before.before.before.before.before.before.before.before.s2.given)
-    (λ c. c.before.before.before.before.before.before.before.before.before.k2.given)
-    (λ c. c.before.before.before.before.before.before.before.temp-s-inv2.given)
-    (λ c. c.before.before.before.before.before.temp-hp2.given)
-    (λ c. c.before.before.before.temp-pht2.given)
-    (λ c. c.before.temp-khp2.given)
-    (λ c. let d = c.before.before.before.before.before.before.before.before.before.before.before.before.before.before.before.before.before.before in let t = d.before.before.before.before.before.before.before.before.before.before in left (start2 t) 4 2 {e = end2 d} t.before.if3.true (eqb-true _ _ t.if4.true) d.correct-four.ensures)
-    (λ c κs. let s = start3 c.before.before in let h = s.requires.0 in (h.states, h.x_holds, h.h_holds, s.requires.1, h.y_holds))
-    (λ c κs. let s = start3 c.before.before.before.before.before.before.before.before.before.before.before.before.before.before in let h = s.requires.0 in held_with _ _ (lent s) _ [] h (omega (arith, h.y_holds)))
-    (λ c. c.before.before.before.before.before.before.before.before.before.before.before.before.before.before.before.x3.given)
-    (λ c. c.before.before.before.before.before.before.before.before.before.before.before.before.before.p3.given)
-    (λ c. c.before.before.before.before.before.before.before.before.before.before.before.before.before.before.before.before.before.before.before.before.before.before.before.before.before.before.before.y3.given)
-    (λ c. c.before.before.before.before.before.before.before.before.before.before.before.s3.given)
-    (λ c. c.before.before.before.before.before.before.before.before.before.k3.given)
-    (λ c. c.before.before.before.before.before.before.before.temp-s-inv3.given)
-    (λ c. c.before.before.before.before.before.temp-hp3.given)
-    (λ c. c.before.before.before.temp-pht3.given)
-    (λ c. c.before.temp-khp3.given)
-    (λ c. let u = c.before.before.before.before.before.before.before.before.before.before.before.before.before.before.before.before in (u.before.before.before.before.before.before.before.before.before.before.before.before.innovate-cells.ensures, u.update-cells.ensures)))
+    (λ c κs. let t = c.before.before.before.before.before.before.before.before.before in fits (start1 t) 2 1 t.if-n-eq2.true (eqb-true _ _ t.if-m-eq1.true-raw))
+    (λ c. c.x-1.given)
+    (λ c. c.p-1.given)
+    (λ c. c.y-1.given)
+    (λ c. c.s-1.given)
+    (λ c. c.k-1.given)
+    (λ c. c.temp_s_inv-1.given)
+    (λ c. c.temp_hp-1.given)
+    (λ c. c.temp_pht-1.given)
+    (λ c. c.temp_khp-1.given)
+    (λ c. let d = c.before.before.before.before.before.before.before.before.before.before.before.before.before.before.before.before.before.before in let t = d.before.before.before.before.before.before.before.before.before.before in left (start1 t) 2 1 {e = end1 d} t.if-n-eq2.true (eqb-true _ _ t.if-m-eq1.true-raw) d.correct_two.ensures)
+    (λ c κs. let t = c.before.before.before.before.before.before.before.before.before in fits (start2 t) 4 2 t.if-n-eq4.true (eqb-true _ _ t.if-m-eq2.true-raw))
+    (λ c. c.x-then-m-eq2-1.given)
+    (λ c. c.p-then-m-eq2-1.given)
+    (λ c. c.y-then-m-eq2-1.given)
+    (λ c. c.s-then-m-eq2-1.given)
+    (λ c. c.k-then-m-eq2-1.given)
+    (λ c. c.temp_s_inv-then-m-eq2-1.given)
+    (λ c. c.temp_hp-then-m-eq2-1.given)
+    (λ c. c.temp_pht-then-m-eq2-1.given)
+    (λ c. c.temp_khp-then-m-eq2-1.given)
+    (λ c. let d = c.before.before.before.before.before.before.before.before.before.before.before.before.before.before.before.before.before.before in let t = d.before.before.before.before.before.before.before.before.before.before in left (start2 t) 4 2 {e = end2 d} t.if-n-eq4.true (eqb-true _ _ t.if-m-eq2.true-raw) d.correct_four.ensures)
+    (λ c κs. let s = start3 c.before in let h = s.requires.0 in (h.states, h.x_holds, h.h_holds, s.requires.1, h.y_holds))
+    (λ c κs. let s = start3 c.before.before.before.before.before.before.before.before.before.before.before.before in let h = s.requires.0 in held_with _ _ (lent s) _ [] h (omega (arith, h.y_holds)))
+    (λ c. c.x-2-1.given)
+    (λ c. c.p-2-1.given)
+    (λ c. c.y-2-1.given)
+    (λ c. c.s-2-1.given)
+    (λ c. c.k-2-1.given)
+    (λ c. c.temp_s_inv-2-1.given)
+    (λ c. c.temp_hp-2-1.given)
+    (λ c. c.temp_pht-2-1.given)
+    (λ c. c.temp_khp-2-1.given)
+    (λ c. (c.innovate_cells.ensures, c.update_cells.ensures)))
