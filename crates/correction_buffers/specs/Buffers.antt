@@ -1,5 +1,5 @@
 -- The buffers of a correction as a line lends them. Definitions only.
-use Rattle.std.specs.Prelude.{◌≡◌, List, ℕ, ◌≤◌, length, take, Float}
+use Rattle.std.specs.Prelude.{◌≡◌, ◌≤◌, length, take}
 use Rattle.lists.specs.declared.call.Lent.{Lent}
 use Rattle.correction_buffers.specs.declared.Buffers.{Buffers}
 

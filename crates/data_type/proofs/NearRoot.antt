@@ -3,7 +3,6 @@ use mathlib.Core.Path.{◌≡◌, refl, sym, ap, ◌∙◌}
 use Prim.Native.Nat.{ℕ, suc, ◌+◌, ◌-◌, ◌*◌, ◌%◌, ◌^◌, ◌≤◌, ◌<◌}
 use native.Mathlib.Nat.{sub-zero, mul_assoc, pow-succ'}
 use native.Mathlib.Omega.{arith}
-use lib.Pow.{pow-add, pow_pos}
 use lib.Ieee.{Format, prec, hid}
 use lib.Ieee.Fits.{two, two-le_pos}
 use borrow.Author.Tests.{lt-ltb, le-ltb}

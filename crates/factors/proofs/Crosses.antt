@@ -8,7 +8,7 @@ use native.Mathlib.Decide.{ℕ_discrete, dec_lt}
 use native.Mathlib.Omega.{arith}
 use borrow.Author.Tests.{lt-ltb, le-ltb, eq-eqb, ne_eqb}
 use lib.Dec.{eqb, ltb}
-use lib.ListN.{length, set, length-set}
+use lib.ListN.{length, set}
 use lib.Ieee.{Float}
 use Rattle.grids.specs.Grid.{grid, cell, with_cell}
 use Rattle.grids.proofs.Grids.{length-grid, grid-cell, grid-set, grid_ext, grid_self, with_same, with_row, with_col}

@@ -13,7 +13,7 @@ use Rattle.numbers.proofs.Every.{every_same, every_flat}
 use Rattle.grids.specs.Grid.{cell, run, grid}
 use Rattle.grids.proofs.Grids.{run_over, run_ext, grid_ext}
 use Rattle.grids.proofs.Steps.{regrid}
-use Rattle.entries.specs.Entries.{times, times_t, numbers, product, product_t, row_product}
+use Rattle.entries.specs.Entries.{times, numbers, product, product_t, row_product}
 use Rattle.factors.specs.Decomposition.{reached, decomposed}
 use Rattle.factors.specs.Inverse.{inverse}
 use Rattle.filters.specs.Correction.{innovation_of, hp_of, residual_of, factor_of, pivot_of, pht_of, new_x}

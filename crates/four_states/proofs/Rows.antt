@@ -1,6 +1,5 @@
 -- A row of a product in two halves: both compute to the same sums. Assumes nothing.
 use mathlib.Core.Path.{◌≡◌, refl, ap, ◌∙◌}
-use lib.Ieee.{Float}
 use Rattle.side_by_side.specs.declared.Four.{Four}
 use Rattle.side_by_side.specs.declared.Sixteen.{Sixteen}
 use Rattle.numbers.specs.Sums.{plus0, sum_from}

@@ -2,7 +2,7 @@
 use mathlib.Core.Path.{◌≡◌, refl, sym, ap, ap₂, ◌∙◌, subst}
 use mathlib.Core.Logic.{◌⊎◌, ⊎_elim}
 use Prim.Native.Nat.{ℕ, zero, suc, ◌+◌, ◌-◌, ◌*◌, ◌^◌, ◌≤◌, ◌<◌, suc-le-suc}
-use native.Mathlib.Nat.{eq_of_mul-eq-mul_right, le_step, le_of_suc-le-suc, not-suc-le-zero, eq-or-lt_of_le, le-add_left, le-add_right, add_comm, le_trans, le_of_eq, le_of_lt, le_refl, sub-add_cancel, le_of_mul-le-mul_right, zero-lt-suc, mul-one, mul-pos, mul-mul-mul_comm, mul_assoc, mul_comm, mul-sub, add-mul, zero-mul, mul-zero}
+use native.Mathlib.Nat.{le_step, le_of_suc-le-suc, not-suc-le-zero, eq-or-lt_of_le, le-add_left, le-add_right, add_comm, le_trans, le_of_eq, le_of_lt, le_refl, sub-add_cancel, le_of_mul-le-mul_right, zero-lt-suc, mul-one, mul-pos, mul-mul-mul_comm, mul_assoc, mul_comm, mul-sub, add-mul, zero-mul, mul-zero}
 use native.Mathlib.Omega.{arith}
 use mathlib.Core.Bool.{Bool, true, false, not, cond}
 use lib.IntN.{ℤ, pos, negsuc, neg_ℤ, nat_abs, sub_ℕ, ◌+ℤ◌, ◌-ℤ◌, ◌*ℤ◌, +ℤ_idl, +ℤ_comm, neg_ℤ-neg_ℤ, neg_ℤ-+ℤ, +ℤ-neg_ℤ_cancel}

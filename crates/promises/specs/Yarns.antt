@@ -1,5 +1,5 @@
 -- A run of the one-state record (R21): predictions one after the other, by value. Definitions only.
-use Rattle.std.specs.Prelude.{◌≡◌, List, [], ◌∷◌, ℤ, Float}
+use Rattle.std.specs.Prelude.{◌≡◌, List, [], ◌∷◌, ℤ}
 use Rattle.numbers.specs.Whole.{Whole}
 use Rattle.one_state.specs.declared.OneState.{OneState}
 use Rattle.one_state.specs.OneState.{predicted}

@@ -1,13 +1,10 @@
 -- `heading` meets its contract: each line that is right says where the next one begins, and each way out is a case of `proofs/Judging.antt`. Assumes nothing.
-use mathlib.Core.Path.{◌≡◌, refl, sym, subst, ◌∙◌}
+use mathlib.Core.Path.{◌≡◌, refl, sym, ◌∙◌}
 use mathlib.Core.Bool.{true}
-use mathlib.Core.List.{List}
-use Prim.Native.Nat.{ℕ, ◌≤◌}
+use Prim.Native.Nat.{◌≤◌}
 use native.Mathlib.Omega.{arith}
-use Rattle.answers.specs.declared.Answer.TheVariants.{Done}
 use Rattle.card_text.specs.Lines.{ends, behind_lines}
-use Rattle.card_text.specs.Card.{edition_key, states_key, observations_key, count_line, count_of}
-use Rattle.card_verdicts.specs.Verdicts.{Here, size_line_answer, SizedAt}
+use Rattle.card_text.specs.Card.{edition_key, states_key, observations_key, count_line}
 use Rattle.card_verdicts.proofs.Judging.{at_start_lem, count_wrong, count_right, line_1, other_edition, size_refused, size_taken_lem, states_refused, observations_decide}
 use borrow.Author.Rules.{rules}
 use Rattle.card_verdicts.proofs.heading.Statement.{statement}

@@ -6,9 +6,8 @@ use Prim.Native.Nat.{ℕ, ◌*◌, ◌≤◌}
 use native.Mathlib.Nat.{mul-pos}
 use native.Mathlib.Omega.{arith}
 use Rattle.answers.proofs.Shorter.{few}
-use Rattle.card_text.specs.Lines.{ends, behind_lines}
+use Rattle.card_text.specs.Lines.{ends}
 use Rattle.card_text.specs.Card.{a_key, q_key, h_key, r_key, entries_line}
-use Rattle.card_verdicts.specs.Verdicts.{Here}
 use Rattle.card_verdicts.proofs.Judging.{entries_right, entries_wrong, line_4, line_5, line_6, line_7, behind_decides, something, nothing_more}
 use borrow.Author.Rules.{rules}
 use Rattle.card_verdicts.proofs.matrices.Statement.{statement}

@@ -1,7 +1,5 @@
 -- `read` meets its contract: a card that is refused stays so, else the room decides; where there is room the matrices are filled. Assumes nothing.
 use mathlib.Core.Path.{◌≡◌, sym, subst, ◌∙◌}
-use mathlib.Core.List.{List}
-use Prim.Native.Nat.{ℕ}
 use lib.Ieee.{binary32}
 use Rattle.answers.specs.declared.Answer.TheVariants.{Done}
 use Rattle.answers.proofs.Kept.{is_done_lem, accepted}

@@ -4,7 +4,7 @@ use mathlib.Core.List.{[]}
 use Prim.Native.Nat.{ℕ}
 use lib.Ieee.{binary32}
 use Rattle.answers.specs.declared.Answer.TheVariants.{Done}
-use Rattle.filters.specs.Lent.{Buffers, buffers, Held}
+use Rattle.filters.specs.Lent.{buffers, Held}
 use Rattle.filters.specs.Corrected.{Renewed}
 use borrow.Author.Rules.{rules}
 use Rattle.reading_updates.proofs.update_cells.Statement.{statement}
@@ -21,7 +21,7 @@ returns-then-m-eq3 c =
     let a = c.args in
     let l = c.update_three.new in
     subst (λ (i : ℕ). Renewed binary32 a.n i Done c.update_three.result (buffers a.x.now a.p.now a.h.now [] a.r.now a.y.now a.s.now a.k.now a.temp_s_inv.now a.temp_hp.now a.temp_pht.now a.temp_khp.now)
-        (buffers l.x l.p a.h.now [] a.r.now a.y.now l.s l.k l.temp_s_inv l.temp_hp l.temp_pht l.temp_khp)) (sym c.if-m-eq3.true) c.update_three.ensures
+    (buffers l.x l.p a.h.now [] a.r.now a.y.now l.s l.k l.temp_s_inv l.temp_hp l.temp_pht l.temp_khp)) (sym c.if-m-eq3.true) c.update_three.ensures
 
 pub update_cells_spec : {M : Type 1} → statement M
 update_cells_spec =

@@ -71,7 +71,7 @@ returns c =
     let khp = c.mult_cells.ensures in
     let told = c.sums_finite.ensures in
     elim c.else-sums_finite.branch [
-      else-sums_finite-via-then-sums_finite+else-differences_finite w ↦ (difference_refused binary32 a.n a.m a.x.now a.p.now a.y.now a.k.now a.temp_hp.now a.temp_khp.now _ _ _ (omega arith) c.requires.7 c.rowvector_cells.ensures khp told w.differences_finite.ensures w.if-sums_finite.true w.if-differences_finite.false, (refl, (khp, refl)))
+      | else-sums_finite-via-then-sums_finite+else-differences_finite w ↦ (difference_refused binary32 a.n a.m a.x.now a.p.now a.y.now a.k.now a.temp_hp.now a.temp_khp.now _ _ _ (omega arith) c.requires.7 c.rowvector_cells.ensures khp told w.differences_finite.ensures w.if-sums_finite.true w.if-differences_finite.false, (refl, (khp, refl)))
       | else-sums_finite-via-else-sums_finite w ↦ (sum_refused binary32 a.n a.m a.x.now a.p.now a.y.now a.k.now a.temp_hp.now a.temp_khp.now _ _ _ (omega arith) c.requires.7 c.rowvector_cells.ensures khp told w.if-sums_finite.false, (refl, (khp, refl)))
     ]
 

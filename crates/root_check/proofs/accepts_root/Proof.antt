@@ -4,7 +4,7 @@ use mathlib.Core.Logic.{⊎_elim}
 use native.Mathlib.Nat.{lt_irrefl, lt_of_lt_of_le}
 use native.Mathlib.Omega.{arith}
 use borrow.Author.Rules.{rules}
-use borrow.Author.Tests.{ltb-true, ltb-false, ne_eqb}
+use borrow.Author.Tests.{ltb-true, ne_eqb}
 use lib.Dec.{lit≤}
 use Rattle.root_check.proofs.Cases.{square_fits, too_large, too_small, above_least, at_least, out_of_range}
 use Rattle.root_check.proofs.accepts_root.Statement.{statement}

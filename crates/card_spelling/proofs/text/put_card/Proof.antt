@@ -3,7 +3,6 @@
 use mathlib.Core.Path.{◌∙◌}
 use Prim.Native.Nat.{◌+◌, ◌*◌, ◌≤◌}
 use native.Mathlib.Omega.{arith}
-use borrow.Author.Rules.{rules}
 use lib.Dec.{lit<}
 use lib.ListN.{length}
 use lib.Ieee.{binary32}
@@ -34,18 +33,14 @@ room6 c = room_behind _ _ (left6 8 c.args.n c.args.m) _ (room5 c.before.before.b
 
 -- ---- the needs
 
-
 put_count_line-at_states-requires : tie.Need-put_count_line-at_states-requires
 put_count_line-at_states-requires c κs = (lit< tt, room_here _ _ (left1 8 c.args.n c.args.m) _ (room_first 8 c.args.n c.args.m _ c.requires.8))
-
 
 put_count_line-at_observations-requires : tie.Need-put_count_line-at_observations-requires
 put_count_line-at_observations-requires c κs = (omega (arith, c.requires), room_here _ _ (left2 8 c.args.n c.args.m) _ (room1 c.before.before.before.before.before))
 
-
 put_count_line-at_a-requires : tie.Need-put_count_line-at_a-requires
 put_count_line-at_a-requires c κs = (omega (arith, c.requires), room_here _ _ (left3 8 c.args.n c.args.m) _ (room2 c.before.before.before.before.before))
-
 
 overflow_mul-n : tie.Need-overflow_mul-n
 overflow_mul-n c = omega (arith, entries_few c.args.n c.args.m c.requires.0 c.requires.1 c.requires.2 c.requires.3)
@@ -53,20 +48,17 @@ overflow_mul-n c = omega (arith, entries_few c.args.n c.args.m c.requires.0 c.re
 put_entries_line-at_q-requires : tie.Need-put_entries_line-at_q-requires
 put_entries_line-at_q-requires c κs = (omega (arith, entries_few c.args.n c.args.m c.requires.0 c.requires.1 c.requires.2 c.requires.3), omega (arith, c.requires), room_here _ _ (left4 8 c.args.n c.args.m) _ (room3 c.before.before.before.before.before))
 
-
 overflow_mul-n-2 : tie.Need-overflow_mul-n-2
 overflow_mul-n-2 c = omega (arith, entries_few c.args.n c.args.m c.requires.0 c.requires.1 c.requires.2 c.requires.3)
 
 put_entries_line-at_h-requires : tie.Need-put_entries_line-at_h-requires
 put_entries_line-at_h-requires c κs = (omega (arith, entries_few c.args.n c.args.m c.requires.0 c.requires.1 c.requires.2 c.requires.3), omega (arith, c.requires), room_here _ _ (left5 8 c.args.n c.args.m) _ (room4 c.before.before.before.before.before))
 
-
 overflow_mul-m : tie.Need-overflow_mul-m
 overflow_mul-m c = omega (arith, entries_few c.args.n c.args.m c.requires.0 c.requires.1 c.requires.2 c.requires.3)
 
 put_entries_line-at_r-requires : tie.Need-put_entries_line-at_r-requires
 put_entries_line-at_r-requires c κs = (omega (arith, entries_few c.args.n c.args.m c.requires.0 c.requires.1 c.requires.2 c.requires.3), omega (arith, c.requires), room_here _ _ (left6 8 c.args.n c.args.m) _ (room5 c.before.before.before.before.before))
-
 
 overflow_mul-m-2 : tie.Need-overflow_mul-m-2
 overflow_mul-m-2 c = omega (arith, entries_few c.args.n c.args.m c.requires.0 c.requires.1 c.requires.2 c.requires.3)

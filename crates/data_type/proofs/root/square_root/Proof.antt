@@ -25,7 +25,7 @@ scaled c =
     let F = held c.before.before.before in
     let l = c.if-b-ge2147483648.false in
     elim c.match-e.branch [
-      in-0+else-t-eq0 w ↦ let q = w.lifted-a.ensures in rw w.a-is (q.0, q.1, q.2, case_sub binary32 _ F _ _ q.0 q.1 q.2 q.3 w.in-0.is w.if-t-eq0.false l)
+      | in-0+else-t-eq0 w ↦ let q = w.lifted-a.ensures in rw w.a-is (q.0, q.1, q.2, case_sub binary32 _ F _ _ q.0 q.1 q.2 q.3 w.in-0.is w.if-t-eq0.false l)
       | in-1-to-254 w ↦ rw w.a-is (omega arith, omega arith, omega arith, case_normal binary32 _ F (omega (arith, w.in-1-to-254)) (omega (arith, w.in-1-to-254)) l)
     ]
 

@@ -3,7 +3,6 @@ use lib.ListN.{length}
 use Rattle.answers.proofs.Kept.{accepted}
 use Rattle.grids.proofs.Calls.{written_by, kept_by}
 use Rattle.filters.proofs.PredictionFits.{ShapeX, ShapeP, both_fit}
-use borrow.Author.Rules.{rules}
 use Rattle.kalman.proofs.regular.predict.Statement.{statement}
 use Rattle.kalman.proofs.regular.predict.Tie as tie
 

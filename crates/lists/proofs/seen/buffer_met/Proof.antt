@@ -2,7 +2,7 @@
 -- Assumes nothing.
 use mathlib.Core.Logic.{⊎_elim}
 use native.Mathlib.Omega.{arith}
-use borrow.Author.Tests.{ltb-true, ltb-false}
+use borrow.Author.Tests.{ltb-false}
 use Rattle.lists.proofs.Comparing.{no_buffer, other_length, too_long, buffer}
 use borrow.Author.Rules.{rules}
 use Rattle.lists.proofs.seen.buffer_met.Statement.{statement}
