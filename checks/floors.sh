@@ -34,7 +34,7 @@ draw() {
         return out == "" ? "the ground" : out
     }
     { sub(/#.*/, "") }
-    /:/ { n = $0; sub(/:.*/, "", n); d = $0; sub(/^[^:]*:/, "", d); deps[n] = d; names[++count] = n }
+    /:/ { n = $1; sub(/:.*/, "", n); d = $0; sub(/^[^:]*:/, "", d); deps[n] = d; names[++count] = n }
     END {
         for (k = 1; k <= count; k++) {
             if (floor_of(names[k]) > top) top = level[names[k]]

@@ -93,7 +93,7 @@ def text(table, name, first):
         "first": "{:,}".format(first),
         "last": "{:,}".format(first + 511),
         "i": "k" if first == 0 else "(k + %d)" % first,
-        "uses": "_<_" if first == 0 else "_+_, _<_",
+        "uses": "◌<◌" if first == 0 else "◌+◌, ◌<◌",
         "k": "k" if first == 0 else "k + %d" % first,
         "arms": arms,
     }
@@ -104,13 +104,15 @@ TEXT = """// The %(name)s half of the table of roots (R37): entries %(first)s to
 // Each number begins with the entry, four hexadecimal digits; what stands behind it improves an estimate
 // that starts there (`root_table::proposed`). A `match` whose arms are constants is compiled to a table in
 // the program's read-only data; a `const` array would be built anew on the stack at each use.
-ghost use Prim.Native.Nat.{%(uses)s};
-ghost use Rattle·numbers.specs.Proposed.{IsEntry, entryIn};
+#![tactic(auto)]
+
+ghost use Rattle.std.specs.Prelude.{%(uses)s};
+ghost use Rattle.numbers.specs.Proposed.{IsEntry, entry_in};
 
 // The number of entry %(k)s.
 pub fn number_of(k: u32) -> u64
-    requires { ⌜ k < 512 ⌝ }
-    ensures { λ r. ⌜ IsEntry %(i)s (entryIn r) ⌝ }
+    requires { k < 512 }
+    ensures { IsEntry %(i)s (entry_in result) }
 {
     match k {
 %(arms)s        _ => root_entries::worked_out(%(k)s),
