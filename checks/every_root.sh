@@ -13,12 +13,11 @@
 #
 # The first two build the archive (lib/build.sh), link it with checks/every_root.c and run that. The
 # other two run code that breaks its contracts and so has no proof: they link an object that is compiled
-# WITHOUT PROOF (checks/unproved.sh) from a copy of the crates in target/checks, where alone the edits
+# WITHOUT PROOF (checks/unproved.sh) from a copy of the crates in a temporary folder, where alone the edits
 # are made.
-# Everything that it writes is under target/. The exit status is 0 where nothing differs.
+# Everything else that it writes is under target/. The exit status is 0 where nothing differs.
 set -eu
 
-trees=target/checks/trees
 reach='0x402f0000 16384' # the patterns from 2 to 4 that lead to entry 700 of the table
 
 fail() {
@@ -34,9 +33,15 @@ link_with() { # OBJECT NAME
 
 # ---- builds that only this run sees
 
+# The folder of the copies, outside the repository, since `rt ci` refuses sources that no crate of it has.
+make_room() {
+    trees=$(mktemp -d "${TMPDIR:-/tmp}/every-root-XXXXXX")
+    trap 'rm -rf "$trees"' EXIT
+    trap 'exit 130' INT TERM HUP
+}
+
 # A copy of the sources.
 copy_to() { # NAME
-    rm -rf "${trees:?}/$1"
     for source in crates/*/src; do
         mkdir -p "$trees/$1/${source%/src}"
         cp -R "$source" "$trees/$1/$source"
@@ -74,6 +79,7 @@ build_unproved() { # NAME
 }
 
 compare_damaged() {
+    make_room
     copy_to whole
     copy_to damaged
     damage damaged
@@ -95,6 +101,7 @@ run_both() { # NAME
 }
 
 count_loops() {
+    make_room
     copy_to loop
     spoil_loop loop
     copy_to damaged_loop

@@ -5,83 +5,67 @@
 #
 #   checks/unproved.sh TREE NAME     target/unproved/NAME.o, of TREE/crates and TREE/crates.txt
 #
-# The object exports yurgamysh_square_root and yurgamysh_recip of the family c_roots, as C has them. The
-# kit compiles what is not proved only as a program that it runs at once, so the family is handed to it as
-# a program that does nothing, by a clang that keeps the bitcode; the program's main is taken out of it,
-# the two functions are put in, and the kit's own clang makes the object. Tried with kit 5b. For x86-64
-# alone. Everything that it writes is under target/.
+# The object exports yurgamysh_square_root and yurgamysh_recip, which call what the family c_roots calls for
+# them. The kit compiles what is not proved only as a program that it tries at once (`rt try`), with tests of
+# each step in it; so a program that calls the two is handed to a copy of the kit whose clang keeps the
+# bitcode (checks/shadow_kit.sh). Of that the program's main and what the tests do are taken out, the two
+# functions for C are put in, and the kit's own clang makes the object, with the flags and for the processor
+# that the archive has. Tried with kit 13f. For x86-64 alone. Sources and links lie in a temporary folder
+# while it runs; all else that it writes is under target/.
 set -eu
-
-family=c_roots
 
 fail() {
     echo "unproved: $1" >&2
     exit 2
 }
 
-# The crates of the tree that the family stands on, each behind those that it stands on itself.
-crates_below() {
-    awk -v family="$family" '
-        function visit(n,    a, k, m) {
-            if (!(n in deps) || seen[n]++) return
-            m = split(deps[n], a, " ")
-            for (k = 1; k <= m; k++) visit(a[k])
-            if (n != family) print n
-        }
-        { sub(/#.*/, "") }
-        /:/ { n = $0; sub(/:.*/, "", n); gsub(/[ \t]/, "", n); sub(/^[^:]*:/, ""); deps[n] = $0 }
-        END { visit(family) }' "$tree/crates.txt"
+# The tree as a repository of its own, with a program that calls the two.
+make_program() {
+    mkdir -p "$room/tree/.git" "$room/tree/crates/unproved/src"
+    for source in "$tree"/crates/*/src; do
+        crate=${source%/src}
+        mkdir -p "$room/tree/crates/${crate##*/}"
+        cp -R "$source" "$room/tree/crates/${crate##*/}/src"
+    done
+    { cat "$tree/crates.txt" && echo 'unproved: data_type'; } >"$room/tree/crates.txt"
+    cat >"$room/tree/crates/unproved/src/main.rt" <<'END'
+fn yurgamysh_square_root(x: f32) -> f32 {
+    data_type::square_root(x)
 }
 
-# A copy of the kit's tools by links, whose clang first keeps the bitcode that it compiles at -O3.
-shadow_tools() { # FOLDER
-    mkdir -p "$1/bin"
-    for part in "$tools"/*; do
-        [ "$(basename "$part")" = bin ] || ln -s "$part" "$1/"
-    done
-    for part in "$tools"/bin/*; do
-        [ "$(basename "$part")" = clang ] || ln -s "$part" "$1/bin/"
-    done
-    cat >"$1/bin/clang" <<END
-#!/bin/sh
-case " \$* " in
-*' -O3 '*)
-    for word in "\$@"; do
-        case \$word in *.bc) cp "\$word" '$work/kept.bc' ;; esac
-    done
-    ;;
-esac
-exec '$tools/bin/clang' "\$@"
+fn yurgamysh_recip(v: f32) -> f32 {
+    data_type::recip(v)
+}
+
+fn main() {
+    let _root = yurgamysh_square_root(1.0);
+    let _recip = yurgamysh_recip(1.0);
+}
 END
-    chmod +x "$1/bin/clang"
 }
 
-# The family as a program, compiled by the kit: its bitcode ends in kept.bc.
-compile_family() {
-    cp -R "$tree/crates/$family/src" "$work/src"
-    mv "$work/src/lib.rt" "$work/src/main.rt"
-    echo 'fn main() {}' >>"$work/src/main.rt"
-    set --
-    for crate in $(crates_below); do
-        set -- "$@" --lib "$crate=$tree/crates/$crate/src/lib.rt"
-    done
-    TMPDIR=$work/tmp "$kit/on/$machine/bin/rattle-cases" --toolchain "$work/tools" "$work/src/main.rt" \
-        --crate-name "$family" --lib "std=$kit/libs/std/src/lib.rt" "$@" >"$work/log" 2>&1 || {
-        tail -n 12 "$work/log" | cut -c 1-300 >&2
-        fail "$tree was not compiled; $work/log has all that was said"
+# The program, compiled and tried by the kit: its bitcode ends in kept.bc. How the try ends does not matter.
+compile_program() {
+    sh "$root/checks/shadow_kit.sh" "$room" "$room/kept.bc"
+    (cd "$room/tree/crates/unproved" && "$room/kit/bin/rt" try) </dev/null >"$work.log" 2>&1 || :
+    [ -f "$room/kept.bc" ] || {
+        tail -n 12 "$work.log" | cut -c 1-300 >&2
+        fail "$tree was not compiled; $work.log has all that was said"
     }
-    [ -f "$work/kept.bc" ] || fail "the kit's clang was handed no bitcode: this kit works in another way"
 }
 
 clang() {
-    TMPDIR=$work/tmp "$tools/bin/clang" --target=x86_64-unknown-linux-gnu --no-default-config \
+    TMPDIR=$room "$tools/bin/clang" --target=x86_64-unknown-linux-gnu --no-default-config \
         -Wno-override-module "$@"
 }
 
-# The text of the bitcode, with the two functions for C at its end and without main.
+# The text of the bitcode, with the two functions for C at its end, without main, and with tests that do
+# nothing.
 with_exports() {
-    awk -v family="$family" '
+    awk '
         /^define i32 @main\(\)/ { inside = 1 }
+        /^define internal void @"rattle-llvm-checks::/ { print; print "  ret void\n}"; tests++; inside = 1 }
+        { gsub(/"target-cpu"="x86-64"/, "\"target-cpu\"=\"x86-64-v2\"") }
         !inside
         inside && /^[}]/ { inside = 0 }
         /^define internal noundef float @"[a-z_:]*::yurgamysh_(square_root|recip)"\(float noundef %a0\) #[0-9]+ [{]$/ {
@@ -93,34 +77,36 @@ with_exports() {
         }
         END {
             for (k = 1; k <= count; k++) printf "\n%s", export[k]
-            exit (count != 2)
-        }' "$work/kept.ll" >"$work/exported.ll" || fail "the two functions are not in the module: this kit works in another way"
+            exit (count != 2 || tests == 0)
+        }' "$room/kept.ll" >"$room/exported.ll" || fail "the two functions are not in the module: this kit works in another way"
 }
 
 make_object() {
-    clang -O0 -Xclang -disable-llvm-passes -S -emit-llvm -x ir "$work/kept.bc" -o "$work/kept.ll"
+    clang -O0 -Xclang -disable-llvm-passes -S -emit-llvm -x ir "$room/kept.bc" -o "$room/kept.ll"
     with_exports
     clang -march=x86-64 -O3 -fPIC -ffunction-sections -fdata-sections -mllvm -trap-unreachable \
-        -mllvm -no-trap-after-noreturn -c -x ir "$work/exported.ll" -o "$work.o"
+        -mllvm -no-trap-after-noreturn -mllvm -no-x86-call-frame-opt -mllvm -disable-machine-licm \
+        -mllvm -disable-postra-machine-licm -mllvm -sink-common-insts=false \
+        -c -x ir "$room/exported.ll" -o "$work.o"
 }
 
 root=$(CDPATH='' cd -- "$(dirname -- "$0")/.." && pwd -P)
 [ $# -eq 2 ] || fail 'usage: checks/unproved.sh TREE NAME'
 case $2 in '' | *[!a-z_]*) fail "$2: a name has small letters and _ alone" ;; esac
 [ -f "$1/crates.txt" ] || fail "$1 has no crates.txt"
-[ -d "$1/crates/$family/src" ] || fail "$1 has no crates/$family/src"
+[ -d "$1/crates/data_type/src" ] || fail "$1 has no crates/data_type/src"
 tree=$(CDPATH='' cd -- "$1" && pwd -P)
-machine=$(uname -m)
-[ "$machine" = x86_64 ] || fail "this is $machine, and the script knows x86_64 alone"
+[ "$(uname -m)" = x86_64 ] || fail "this is $(uname -m), and the script knows x86_64 alone"
 sh "$root/checks/kit.sh" || exit 2
-link=$(readlink -f "$(command -v rt)")
-kit=${RATTLE_HOME:-$(CDPATH='' cd -- "$(dirname -- "$link")/.." && pwd -P)}
-tools=$kit/on/$machine/toolchain
-[ -x "$tools/bin/clang" ] || fail "the kit at $kit has no clang for this machine, $machine"
+tools=$(dirname "$(dirname "$(readlink -f "$(command -v rt)")")")/toolchain
+[ -x "$tools/bin/clang" ] || fail "the kit has no toolchain/bin/clang: this kit works in another way"
 work=$root/target/unproved/$2
-rm -rf "$work" "$work.o"
-mkdir -p "$work/tmp"
-shadow_tools "$work/tools"
-compile_family
+mkdir -p "$root/target/unproved"
+rm -f "$work.o" "$work.log"
+room=$(mktemp -d "${TMPDIR:-/tmp}/unproved-XXXXXX")
+trap 'rm -rf "$room"' EXIT
+trap 'exit 130' INT TERM HUP
+make_program
+compile_program
 make_object
 echo "unproved: target/unproved/$2.o is compiled WITHOUT PROOF: for this check alone"

@@ -89,7 +89,7 @@ take_object() { # FAMILY OBJECT
 prove_below() {
     while read -r family _ sum; do
         [ "$(cat "$work/$family.o.sum" 2>/dev/null)" = "$sum" ] || crates_of "$family" | tail -n +2
-    done <"$work/sums" | xargs bash checks/quiet.sh "$work/log" >/dev/null 2>&1 || :
+    done <"$work/sums" | xargs -r bash checks/quiet.sh "$work/log" >/dev/null 2>&1 || :
 }
 
 # Makes FAMILY's object, unless the one that stands there is made from the same.
