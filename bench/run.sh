@@ -50,10 +50,12 @@ fi
 
 cd "$root"
 mkdir -p "$out" target/oracle
-# The oracle's shim names the original's files by this link.
-[ "$(readlink target/oracle/files 2>/dev/null || true)" = "$files" ] || { rm -f target/oracle/files; ln -s "$files" target/oracle/files; }
+# The oracle's shim names these copies of the original's files.
+[ ! -L target/oracle/files ] || rm target/oracle/files
+while read -r _ file; do
+  cmp -s "$files/$file" "target/oracle/files/$file" || { mkdir -p "$(dirname "target/oracle/files/$file")"; cp "$files/$file" "target/oracle/files/$file"; }
+done <oracle/CHECKSUMS
 
-# On a machine that is no x86-64 this is the proved bitcode compiled for it.
 echo "proving and building the archive; target/bench/lib.log has what is said of it"
 sh lib/build.sh >"$out/lib.log" 2>&1 || { tail -20 "$out/lib.log" >&2; die "the archive was not built; target/bench/lib.log has it whole."; }
 tail -n 1 "$out/lib.log"

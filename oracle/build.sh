@@ -25,14 +25,18 @@ while read -r want file; do
   if [ ! -f "$files/$file" ]; then missing="$missing $file"
   elif [ "$(sum "$files/$file")" != "$want" ]; then other="$other $file"
   fi
-  originals="$originals $files/$file"
+  originals="$originals $out/files/$file"
 done <"$here/CHECKSUMS"
 [ -z "$missing" ] || die "'$files' lacks:$missing"
 [ -z "$other" ] || die "not the files of minikalman 0.8.1 that oracle/CHECKSUMS lists:$other"
 echo 'the five files are those of oracle/CHECKSUMS'
 
+# Copies, since `rt ci` refuses a link anywhere in the repository. The shim names them.
 mkdir -p "$out"
-[ "$(readlink "$out/files" 2>/dev/null || true)" = "$files" ] || { rm -f "$out/files"; ln -s "$files" "$out/files"; }
+[ ! -L "$out/files" ] || rm "$out/files"
+while read -r _ file; do
+  cmp -s "$files/$file" "$out/files/$file" || { mkdir -p "$(dirname "$out/files/$file")"; cp "$files/$file" "$out/files/$file"; }
+done <"$here/CHECKSUMS"
 
 # Debug assertions off: mult_buffered asserts an exact auxiliary length. One codegen unit: one thread.
 flags="--edition 2021 -C debug-assertions=off -C overflow-checks=off -C debuginfo=0 -C codegen-units=1 -L $out"

@@ -23,28 +23,23 @@ while [ $# -gt 0 ]; do
     *) die "'$1' is no option; the place of the original's files goes into MINIKALMAN_SRC" ;;
   esac
 done
+[ "$(uname -m)" = x86_64 ] || die "this is $(uname -m), and the kit proves, and links programs, on x86_64 alone"
 sh "$root/checks/kit.sh" || exit 2
 
 bash "$here/build.sh"
 "$root/target/oracle/oracle" --self-test | tail -n 1 | sed 's/^/self test of the oracle: /'
-(cd "$root" && rt check vectors) | tail -n 2
-
-# A program is for x86-64: on another processor it runs in the kit's emulator, as `rt` does it.
-kit=${RATTLE_HOME:-$(dirname "$(dirname "$(readlink -f "$(command -v rt)")")")}
-tools=$kit/on/$(uname -m)/toolchain
-run() {
-  if [ -x "$tools/bin/qemu-x86_64" ]; then
-    "$tools/bin/qemu-x86_64" "$tools/lib/ld-linux-x86-64.so.2" --library-path "$tools/lib" "$root/target/bin/vectors"
-  else
-    "$root/target/bin/vectors"
-  fi
+# It is proved, linked and run on the gate's list, and stays as target/bin/vectors.
+said=$(bash "$root/checks/quiet.sh" "$root/target/vectors.log" vectors) || {
+  printf '%s\n' "$said" | tail -n 20 >&2
+  die 'the program vectors is not proved, or its run failed; target/vectors.log has all that was said'
 }
+printf '%s\n' "$said" | tail -n 2
 
 # replay FILE OPTIONS OF THE ORACLE: what `vectors` says of that list, in FILE
 replay() {
   local file=$1
   shift
-  "$root/target/oracle/oracle" "$@" | run >"$file.part"
+  "$root/target/oracle/oracle" "$@" | "$root/target/bin/vectors" >"$file.part"
   mv "$file.part" "$file"
 }
 

@@ -1,4 +1,4 @@
-//! `build.sh` makes `target/oracle/files` point to the folder with the original files.
+//! `build.sh` copies the original files to `target/oracle/files`.
 
 #[path = "../../target/oracle/files/matrix/data_type.rs"]
 pub mod data_type;
