@@ -124,12 +124,12 @@ finish() { # NAME
     wait "${pid[$1]}"
     status=$?
     cat "target/log/$1.log" >>"$log"
-    # With no change since, a library has nothing said of it, and a program is only run.
+    # With no change since, nothing is said of a library, and a program is only run.
     if grep -q '^logic=proved' "target/log/$1.log"; then
         state[$1]=proved
         line "$1" "$took s"
         echo "rt: $1 proved ($took s)" >>"$log"
-    elif ! grep -qE '^(logic=|rt: |error)|error\[' "target/log/$1.log" && { [ "$status" -eq 0 ] || [ "${kind[$1]}" = program ]; }; then
+    elif grep -q '^rt: nothing has changed since' "target/log/$1.log" || { [ "$status" -eq 0 ] && [ ! -s "target/log/$1.log" ]; }; then
         state[$1]=proved
         line "$1" unchanged
         echo "rt: $1 unchanged" >>"$log"

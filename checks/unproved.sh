@@ -9,8 +9,8 @@
 # them. The kit compiles what is not proved only as a program that it tries at once (`rt try`), with tests of
 # each step in it; so a program that calls the two is handed to a copy of the kit whose clang keeps the
 # bitcode (checks/shadow_kit.sh). Of that the program's main and what the tests do are taken out, the two
-# functions for C are put in, and the kit's own clang makes the object, with the flags and for the processor
-# that the archive has. Tried with kit 13f. For x86-64 alone. Sources and links lie in a temporary folder
+# functions for C are put in, and the kit's own clang makes the object, with the flags that the archive has,
+# for every x86-64 processor. Tried with kit 13f. For x86-64 alone. Sources and links lie in a temporary folder
 # while it runs; all else that it writes is under target/.
 set -eu
 
@@ -65,7 +65,6 @@ with_exports() {
     awk '
         /^define i32 @main\(\)/ { inside = 1 }
         /^define internal void @"rattle-llvm-checks::/ { print; print "  ret void\n}"; tests++; inside = 1 }
-        { gsub(/"target-cpu"="x86-64"/, "\"target-cpu\"=\"x86-64-v2\"") }
         !inside
         inside && /^[}]/ { inside = 0 }
         /^define internal noundef float @"[a-z_:]*::yurgamysh_(square_root|recip)"\(float noundef %a0\) #[0-9]+ [{]$/ {

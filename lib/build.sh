@@ -13,8 +13,8 @@
 # itself marks and no crate below it. What families share is in each of their objects, as local symbols.
 # A family is proved again where it, or a crate that it stands on, has changed.
 #
-# The objects are those that `rt lib` writes in a family's folder once all is proved: kind `proved`. They
-# want an x86-64 processor with what the kit compiles for by itself, x86-64-v2.
+# The objects are those that `rt lib` writes in a family's folder once all is proved: kind `proved`. They are
+# for every x86-64 processor, where the kit by itself compiles for those from x86-64-v2 on.
 #
 # The kit does not run on Arm. On x86-64 it also compiles for Arm what it proved: kind `trying`. It is for
 # measuring and trying, and has not been run. An Arm machine needs no kit to link it, and to test it there
@@ -73,7 +73,7 @@ take_object() { # FAMILY OBJECT
     archive=crates/$1/out/lib$1.a
     rm -f "$archive"
     case $kind in
-    proved) (cd "crates/$1" && rt lib) || return ;;
+    proved) (cd "crates/$1" && rt lib --cpu x86-64) || return ;;
     *) (cd "crates/$1" && rt lib --target "$machine-unknown-linux-gnu") || return ;;
     esac
     [ "$("$tools/bin/llvm-ar" t "$archive" | wc -l)" -eq 1 ] || {
