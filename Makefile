@@ -20,10 +20,10 @@ card: kit ## the fitter's tool, proved: target/bin/card reads a settings card an
 prove: kit ## every crate that has changed, a line for each
 	@bash checks/quiet.sh target/prove.log
 
-test: kit ## the gate: proofs from nothing, wrong programs that must be refused, runs
+test: kit ## the gate: proofs, wrong programs that must be refused, runs
 	@bash .ci/run
 
-costs: ## what each crate and each edit cost in the last gate
+costs: ## what the checks of the last `make prove` took, and how many edits the last gate tried
 	@sh checks/costs.sh
 
 compare: kit ## the Rust's own answers, bit for bit, at scale (MINIKALMAN_SRC, rustc)
