@@ -75,7 +75,7 @@ fn read_about(folder: &Path) {
                 "yurgamysh: {ARCHIVE} in {} is for {machine}, and cargo builds for {target}",
                 folder.display()
             );
-            eprintln!("  make it on the machine that it is for: sh lib/build.sh");
+            eprintln!("  make it on x86-64, where the Rattle kit runs: sh lib/build.sh, and for Arm sh lib/build.sh --trying");
             exit(1)
         }
     }
