@@ -6,52 +6,52 @@ use Rattle.c_correction.proofs.yurgamysh_correct.Tie as tie
 correct-requires : tie.Need-correct-requires
 correct-requires c κs = search rules
 
-code-of-requires : tie.Need-code-of-requires
-code-of-requires c κs = search rules
+code_of-requires : tie.Need-code_of-requires
+code_of-requires c κs = search rules
 
-same_length : tie.Need-same-length
-same_length c = c.before.before.before.before.before.before.before.before.before.before.before.before.before.before.before.before.before.before.x.given
+shape_of-x : tie.Need-shape_of-x
+shape_of-x c = c.x-1.given
 
-same-length-2 : tie.Need-same-length-2
-same-length-2 c = c.before.before.before.before.before.before.before.before.before.before.before.before.before.before.before.before.p.given
+shape_of-p : tie.Need-shape_of-p
+shape_of-p c = c.p-1.given
 
-same-length-3 : tie.Need-same-length-3
-same-length-3 c = c.before.before.before.before.before.before.before.before.before.before.before.before.before.before.y.given
+shape_of-y : tie.Need-shape_of-y
+shape_of-y c = c.y-1.given
 
-same-length-4 : tie.Need-same-length-4
-same-length-4 c = c.before.before.before.before.before.before.before.before.before.before.before.before.s.given
+shape_of-s : tie.Need-shape_of-s
+shape_of-s c = c.s-1.given
 
-same-length-5 : tie.Need-same-length-5
-same-length-5 c = c.before.before.before.before.before.before.before.before.before.before.k.given
+shape_of-k : tie.Need-shape_of-k
+shape_of-k c = c.k-1.given
 
-same-length-6 : tie.Need-same-length-6
-same-length-6 c = c.before.before.before.before.before.before.before.before.temp-s-inv.given
+shape_of-temp_s_inv : tie.Need-shape_of-temp_s_inv
+shape_of-temp_s_inv c = c.temp_s_inv-1.given
 
-same-length-7 : tie.Need-same-length-7
-same-length-7 c = c.before.before.before.before.before.before.temp-hp.given
+shape_of-temp_hp : tie.Need-shape_of-temp_hp
+shape_of-temp_hp c = c.temp_hp-1.given
 
-same-length-8 : tie.Need-same-length-8
-same-length-8 c = c.before.before.before.before.temp-pht.given
+shape_of-temp_pht : tie.Need-shape_of-temp_pht
+shape_of-temp_pht c = c.temp_pht-1.given
 
-same-length-9 : tie.Need-same-length-9
-same-length-9 c = c.before.before.temp-khp.given
+shape_of-temp_khp : tie.Need-shape_of-temp_khp
+shape_of-temp_khp c = c.temp_khp-1.given
 
 returns : tie.Need-returns
-returns c = record { answer = _; code = c.code_of.ensures; kept = c.before.before.before.before.before.before.before.before.before.before.before.before.before.before.before.before.before.before.before.correct.ensures }
+returns c = record { answer = _; code = c.code_of.ensures; kept = c.correct.ensures }
 
-pub yurgamysh-correct-spec : {M : Type 1} → statement M
-yurgamysh-correct-spec =
+pub yurgamysh_correct_spec : {M : Type 1} → statement M
+yurgamysh_correct_spec =
     tie.close
     (tie.spec
     correct-requires
-    code-of-requires
-    same_length
-    same-length-2
-    same-length-3
-    same-length-4
-    same-length-5
-    same-length-6
-    same-length-7
-    same-length-8
-    same-length-9
+    code_of-requires
+    shape_of-x
+    shape_of-p
+    shape_of-y
+    shape_of-s
+    shape_of-k
+    shape_of-temp_s_inv
+    shape_of-temp_hp
+    shape_of-temp_pht
+    shape_of-temp_khp
     returns)

@@ -5,39 +5,39 @@ use Rattle.feeder.proofs.Keeping.{predicted-feeder}
 use Rattle.feeder.proofs.predict.Statement.{statement}
 use Rattle.feeder.proofs.predict.Tie as tie
 
-slice-aggregate-predict : tie.Need-slice-aggregate-predict
-slice-aggregate-predict c = search rules
+slice_bounds-predict-end : tie.Need-slice_bounds-predict-end
+slice_bounds-predict-end c = search rules
 
-slice-aggregate-predict-2 : tie.Need-slice-aggregate-predict-2
-slice-aggregate-predict-2 c = search rules
+slice_bounds-predict-end-2 : tie.Need-slice_bounds-predict-end-2
+slice_bounds-predict-end-2 c = search rules
 
-slice-aggregate-predict-3 : tie.Need-slice-aggregate-predict-3
-slice-aggregate-predict-3 c = search rules
+slice_bounds-predict-end-3 : tie.Need-slice_bounds-predict-end-3
+slice_bounds-predict-end-3 c = search rules
 
-slice-aggregate-predict-4 : tie.Need-slice-aggregate-predict-4
-slice-aggregate-predict-4 c = search rules
+slice_bounds-predict-end-4 : tie.Need-slice_bounds-predict-end-4
+slice_bounds-predict-end-4 c = search rules
 
-slice-aggregate-predict-5 : tie.Need-slice-aggregate-predict-5
-slice-aggregate-predict-5 c = search rules
+slice_bounds-predict-end-5 : tie.Need-slice_bounds-predict-end-5
+slice_bounds-predict-end-5 c = search rules
 
-slice-aggregate-predict-6 : tie.Need-slice-aggregate-predict-6
-slice-aggregate-predict-6 c = search rules
+slice_bounds-predict-end-6 : tie.Need-slice_bounds-predict-end-6
+slice_bounds-predict-end-6 c = search rules
 
 predict-requires : tie.Need-predict-requires
 predict-requires c κs = search rules
 
 returns : tie.Need-returns
-returns c = predicted-feeder c.before.before.before.before.before.before.before.before.before.before.before.before.before.args.f _ (search rules) (search rules) c.before.before.before.before.predict.ensures
+returns c = predicted-feeder c.args.f _ (search rules) (search rules) c.predict.ensures
 
-pub predict-spec : {M : Type 1} → statement M
-predict-spec =
+pub predict_spec : {M : Type 1} → statement M
+predict_spec =
     tie.close
     (tie.spec
-    slice-aggregate-predict
-    slice-aggregate-predict-2
-    slice-aggregate-predict-3
-    slice-aggregate-predict-4
-    slice-aggregate-predict-5
-    slice-aggregate-predict-6
+    slice_bounds-predict-end
+    slice_bounds-predict-end-2
+    slice_bounds-predict-end-3
+    slice_bounds-predict-end-4
+    slice_bounds-predict-end-5
+    slice_bounds-predict-end-6
     predict-requires
     returns)

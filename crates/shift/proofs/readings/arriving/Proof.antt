@@ -18,63 +18,62 @@ infinite : div binary32 (of_bits binary32 0x3f800000) (of_bits binary32 0) ≡ i
 unfolding div of_bits
 infinite = refl
 
-mul-t4 : tie.Need-overflow-mul-t4
-mul-t4 c = search rules
+offset_bounds-step : tie.Need-offset_bounds-step
+offset_bounds-step c = search rules
 
-array-read-t7 : tie.Need-array-read-t7
-array-read-t7 c = search rules
+bounds-step : tie.Need-bounds-step
+bounds-step c = search rules
 
-mul-t11 : tie.Need-overflow-mul-t11
-mul-t11 c = search rules
+offset_bounds-step-in-15 : tie.Need-offset_bounds-step-in-15
+offset_bounds-step-in-15 c = search rules
 
-array-read-t14 : tie.Need-array-read-t14
-array-read-t14 c = search rules
+bounds-step-in-15 : tie.Need-bounds-step-in-15
+bounds-step-in-15 c = search rules
 
-mul-t17 : tie.Need-overflow-mul-t17
-mul-t17 c = search rules
+offset_bounds-step-in_default : tie.Need-offset_bounds-step-in_default
+offset_bounds-step-in_default c = search rules
 
-array-read-t20 : tie.Need-array-read-t20
-array-read-t20 c = search rules
+bounds-step-in_default : tie.Need-bounds-step-in_default
+bounds-step-in_default c = search rules
 
-returns : tie.Need-returns
-returns c = search rules
+returns-in-6 : tie.Need-returns-in-6
+returns-in-6 c = search rules
 
-returns-2 : tie.Need-returns-2
-returns-2 c =
-    let n = c.before.args.step in
-    let at : n ≡ 11 = c.match.keys2 in
+returns-in-11 : tie.Need-returns-in-11
+returns-in-11 c =
+    let n = c.args.step in
+    let at : n ≡ 11 = c.in-11.is in
     (λ h. omega arith, rw (eq-eqb n 11 at) quotient, λ h. absurd (omega arith))
 
-returns-3 : tie.Need-returns-3
-returns-3 c =
-    let n = c.before.args.step in
-    let at : n ≡ 13 = c.match.keys3 in
+returns-in-13 : tie.Need-returns-in-13
+returns-in-13 c =
+    let n = c.args.step in
+    let at : n ≡ 13 = c.in-13.is in
     (λ h. omega arith, rw (ne_eqb n 11 (λ h. omega arith), ne_eqb n 15 (λ h. omega arith)), λ h. quotient)
 
-returns-4 : tie.Need-returns-4
-returns-4 c =
-    let n = c.before.args.step in
-    let at : n ≡ 15 = c.match.keys4 in
+returns-in-15 : tie.Need-returns-in-15
+returns-in-15 c =
+    let n = c.args.step in
+    let at : n ≡ 15 = c.in-15.is in
     (λ h. omega arith, rw (ne_eqb n 11 (λ h. omega arith), eq-eqb n 15 at) infinite, λ h. absurd (omega arith))
 
-returns-5 : tie.Need-returns-5
-returns-5 c =
-    let n = c.before.args.step in
-    let others = c.match.rest in
-    (others.0.0.0.1, rw (ne_eqb n 11 others.0.0.1, ne_eqb n 15 others.1), λ h. absurd (others.0.1 h))
+returns-in_default : tie.Need-returns-in_default
+returns-in_default c =
+    let n = c.args.step in
+    (λ h. omega arith, rw (ne_eqb n 11 (λ h. omega arith), ne_eqb n 15 (λ h. omega arith)), λ h. absurd (omega arith))
 
-pub arriving-spec : {M : Type 1} → statement M
-arriving-spec =
+pub arriving_spec : {M : Type 1} → statement M
+arriving_spec =
     tie.close
     (tie.spec
-    mul-t4
-    array-read-t7
-    mul-t11
-    array-read-t14
-    mul-t17
-    array-read-t20
-    returns
-    returns-2
-    returns-3
-    returns-4
-    returns-5)
+    offset_bounds-step
+    bounds-step
+    offset_bounds-step-in-15
+    bounds-step-in-15
+    offset_bounds-step-in_default
+    bounds-step-in_default
+    returns-in-6
+    returns-in-11
+    returns-in-13
+    returns-in-15
+    returns-in_default)

@@ -5,24 +5,24 @@ use Rattle.shift.proofs.Stepping.{step_lost, step_heard}
 use Rattle.shift.proofs.step.advance.Statement.{statement}
 use Rattle.shift.proofs.step.advance.Tie as tie
 
-predict-requires : tie.Need-predict-requires
-predict-requires c κs = search rules
+predict-predicted-requires : tie.Need-predict-predicted-requires
+predict-predicted-requires c κs = search rules
 
-enum_told : tie.Need-enum-told
-enum_told c = search rules
+enum_told-1 : tie.Need-enum_told-1
+enum_told-1 c = search rules
 
-enum-known-g : tie.Need-enum-known-g
-enum-known-g c = search rules
+enum_known-g : tie.Need-enum_known-g
+enum_known-g c = search rules
 
-correct-requires : tie.Need-correct-requires
-correct-requires c κs = search rules
+correct-c-requires : tie.Need-correct-c-requires
+correct-c-requires c κs = search rules
 
-returns : tie.Need-returns
-returns c = step_lost _ _ _ c.before.before.predict.ensures c.enum_told.given.1
+returns-in-Lost : tie.Need-returns-in-Lost
+returns-in-Lost c = step_lost _ _ _ c.predict-predicted.ensures c.in-Lost.is
 
-returns-2 : tie.Need-returns-2
-returns-2 c = step_heard _ _ _ c.before.before.before.before.before.predict.ensures c.before.before.before.g.given.1 c.before.correct.ensures
+returns-in-Arrived : tie.Need-returns-in-Arrived
+returns-in-Arrived c = step_heard _ _ _ c.predict-predicted.ensures c.in-Arrived.is c.correct-c.ensures
 
-pub advance-spec : {M : Type 1} → statement M
-advance-spec =
-    tie.close (tie.spec predict-requires enum_told enum-known-g correct-requires returns returns-2)
+pub advance_spec : {M : Type 1} → statement M
+advance_spec =
+    tie.close (tie.spec predict-predicted-requires enum_told-1 enum_known-g correct-c-requires returns-in-Lost returns-in-Arrived)

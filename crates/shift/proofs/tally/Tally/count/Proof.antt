@@ -8,53 +8,53 @@ use Rattle.shift.proofs.Counting.{count_lost, count_answered}
 use Rattle.shift.proofs.tally.Tally.count.Statement.{statement}
 use Rattle.shift.proofs.tally.Tally.count.Tie as tie
 
-enum_told : tie.Need-enum-told
-enum_told c = search rules
+enum_told-1 : tie.Need-enum_told-1
+enum_told-1 c = search rules
 
-add-t : tie.Need-overflow-add-t
-add-t c = search rules
+overflow_add-t : tie.Need-overflow_add-t
+overflow_add-t c = search rules
 
-enum-known-outcome : tie.Need-enum-known-outcome
-enum-known-outcome c = search rules
+enum_known-outcome : tie.Need-enum_known-outcome
+enum_known-outcome c = search rules
 
-is-done-requires : tie.Need-is-done-requires
-is-done-requires c κs = search rules
+is_done-requires : tie.Need-is_done-requires
+is_done-requires c κs = search rules
 
-add-t-2 : tie.Need-overflow-add-t-2
-add-t-2 c = search rules
+overflow_add-t-then-is_done : tie.Need-overflow_add-t-then-is_done
+overflow_add-t-then-is_done c = search rules
 
-add-t-3 : tie.Need-overflow-add-t-3
-add-t-3 c = search rules
+overflow_add-t-else-is_done : tie.Need-overflow_add-t-else-is_done
+overflow_add-t-else-is_done c = search rules
 
 tension-requires : tie.Need-tension-requires
 tension-requires c κs = search rules
 
-tension-requires-2 : tie.Need-tension-requires-2
-tension-requires-2 c κs = search rules
+tension-requires-else-is_done : tie.Need-tension-requires-else-is_done
+tension-requires-else-is_done c κs = search rules
 
-returns : tie.Need-returns
-returns c = count_lost c.before.before.before.args.s.outcome (tension_of c.before.before.before.args.s.predicted) (tension_of c.before.before.before.args.s.after) c.before.before.before.args.self c.before.enum_told.given.1
+returns-in-NoReading : tie.Need-returns-in-NoReading
+returns-in-NoReading c = count_lost c.args.s.outcome (tension_of c.args.s.predicted) (tension_of c.args.s.after) c.args.self c.in-NoReading.is
 
-returns-2 : tie.Need-returns-2
-returns-2 c = count_answered c.before.before.before.before.before.before.args.s.outcome (tension_of c.before.before.before.before.before.before.args.s.predicted) (tension_of c.before.before.before.before.before.before.args.s.after) c.before.before.before.before.before.before.args.self _ true c.before.before.before.before.outcome.given.1 (sym c.before.before.is-done.ensures ∙ c.before.if1.true)
+returns-then-is_done : tie.Need-returns-then-is_done
+returns-then-is_done c = count_answered c.args.s.outcome (tension_of c.args.s.predicted) (tension_of c.args.s.after) c.args.self _ true c.in-Answered.is (sym c.is_done.ensures ∙ c.if-is_done.true)
 
-returns-3 : tie.Need-returns-3
-returns-3 c =
-    rw (c.before.tension.ensures, c.tension2.ensures)
-    (count_answered c.before.before.before.before.before.before.before.before.args.s.outcome (tension_of c.before.before.before.before.before.before.before.before.args.s.predicted) (tension_of c.before.before.before.before.before.before.before.before.args.s.after) c.before.before.before.before.before.before.before.before.args.self _ false c.before.before.before.before.before.before.outcome.given.1 (sym c.before.before.before.before.is-done.ensures ∙ c.before.before.before.if1.false))
+returns-else-is_done : tie.Need-returns-else-is_done
+returns-else-is_done c =
+    rw (c.tension.ensures, c.tension-else-is_done.ensures)
+    (count_answered c.args.s.outcome (tension_of c.args.s.predicted) (tension_of c.args.s.after) c.args.self _ false c.in-Answered.is (sym c.is_done.ensures ∙ c.if-is_done.false))
 
 pub count_spec : {M : Type 1} → statement M
 count_spec =
     tie.close
     (tie.spec
-    enum_told
-    add-t
-    enum-known-outcome
-    is-done-requires
-    add-t-2
-    add-t-3
+    enum_told-1
+    overflow_add-t
+    enum_known-outcome
+    is_done-requires
+    overflow_add-t-then-is_done
+    overflow_add-t-else-is_done
     tension-requires
-    tension-requires-2
-    returns
-    returns-2
-    returns-3)
+    tension-requires-else-is_done
+    returns-in-NoReading
+    returns-then-is_done
+    returns-else-is_done)
