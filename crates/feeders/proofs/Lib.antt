@@ -1,2 +1,2 @@
--- What both loops cite: a turn of a loop over a row of records in place, by one step on a record (Loop).
+-- A loop over a row of records in place, by one step on a record: a turn, and all of them (Loop).
 mod Loop

@@ -1,10 +1,10 @@
 // A feeder's shift: its readings, its steps, and the count of what became of the readings.
 #![tactic(auto)]
 
-mod readings;
+mod arrivals;
 mod step;
 mod tally;
 
-pub use readings::{STEPS, arriving};
+pub use arrivals::{STEPS, arriving};
 pub use step::{Step, advance};
 pub use tally::Tally;

@@ -1,4 +1,4 @@
--- `readings::arriving` meets its contract: each arm is a case of `Brings`.
+-- `arrivals::arriving` meets its contract: each arm is a case of `Brings`.
 -- Assumes nothing.
 use mathlib.Core.Path.{◌≡◌, refl}
 use mathlib.Core.Bool.{false}
@@ -6,8 +6,8 @@ use native.Mathlib.Omega.{arith}
 use lib.Ieee.{nan, inf, binary32, div, of_bits}
 use borrow.Author.Rules.{rules}
 use borrow.Author.Tests.{eq-eqb, ne_eqb}
-use Rattle.shift.proofs.readings.arriving.Statement.{statement}
-use Rattle.shift.proofs.readings.arriving.Tie as tie
+use Rattle.shift.proofs.arrivals.arriving.Statement.{statement}
+use Rattle.shift.proofs.arrivals.arriving.Tie as tie
 
 -- the code's 0.0 / 0.0 and 1.0 / 0.0
 quotient : div binary32 (of_bits binary32 0) (of_bits binary32 0) ≡ nan
