@@ -387,8 +387,8 @@ fn the_tool_has_the_same_words() {
     let others = [Refusal::Edition, Refusal::Size(0), Refusal::Size(1)];
     let refusals: Vec<Refusal> = (1..=8).map(Refusal::Line).chain(others).collect();
     for refusal in &refusals {
-        let words = format!("bytesOf \"{}\\n\"", CardError::from(*refusal));
+        let words = format!("bytes_of \"{}\\n\"", CardError::from(*refusal));
         assert!(definition.contains(&words), "{words}");
     }
-    assert_eq!(definition.matches("bytesOf \"").count(), refusals.len());
+    assert_eq!(definition.matches("bytes_of \"").count(), refusals.len());
 }
