@@ -2,8 +2,7 @@
 use mathlib.Core.Path.{◌≡◌, refl, ap, ◌∙◌}
 use mathlib.Core.Bool.{true, false}
 use mathlib.Core.List.{List, [], ◌∷◌}
-use Rattle.answers.specs.declared.Answer.{Answer}
-use Rattle.answers.specs.Answers.{is_done, first_of}
+use Rattle.answers.specs.Answers.{is_done, first_of, Answer}
 use Rattle.answers.specs.Tests.{after_tests}
 
 -- the answer r after the test w, where the answer v before it is u

@@ -1,8 +1,7 @@
 -- The tests behind refusals 1 to 3, and the answer of a call that asks them in their order. Definitions only.
-use Rattle.std.specs.Prelude.{Bool, cond, ◌&&◌, List, [], ◌∷◌, ◌++◌, ℕ, suc, leb, ltb}
-use Rattle.answers.specs.declared.Answer.{Answer}
-use Rattle.answers.specs.declared.Answer.TheVariants.{Done, Size, Short, Range}
-use Rattle.answers.specs.Answers.{first_of}
+use Rattle.std.specs.Prelude.{Bool, cond, ◌&&◌, List, [], ◌∷◌, ◌++◌, ℕ, suc, leb, ltb, Ok, Err}
+use Rattle.answers.specs.declared.Refusal.TheVariants.{Size, Short, Range}
+use Rattle.answers.specs.Answers.{first_of, Answer}
 
 -- a size that is taken is 1 to 16 (R3)
 abbrev pub size_taken : ℕ → Bool
@@ -10,15 +9,15 @@ size_taken n = leb 1 n && leb n 16
 
 -- refusal 1 of the k-th size where it is not taken
 abbrev pub size_test : ℕ → ℕ → Answer
-size_test k n = cond (size_taken n) Done (Size k)
+size_test k n = cond (size_taken n) (Ok tt) (Err (Size k))
 
 -- refusal 2 of the k-th buffer, of len numbers, where it is shorter than its matrix, of so many cells
 abbrev pub buffer_test : ℕ → ℕ → ℕ → Answer
-buffer_test k cells len = cond (ltb len cells) (Short k) Done
+buffer_test k cells len = cond (ltb len cells) (Err (Short k)) (Ok tt)
 
 -- refusal 3 of the row (k = 0) or the column (k = 1) i where it is not below its size n
 abbrev pub place_test : ℕ → ℕ → ℕ → Answer
-place_test k i n = cond (ltb i n) Done (Range k)
+place_test k i n = cond (ltb i n) (Ok tt) (Err (Range k))
 
 -- a lent buffer: how many cells its matrix has, and how many numbers are lent
 pub record Lent : Type 0 where
@@ -60,4 +59,4 @@ after_tests v (w ∷ ws) = after_tests (first_of v w) ws
 
 -- the answer of a call with these sizes, buffers and places, tested in this order (R4)
 abbrev pub call_answer : List ℕ → List Lent → List Place → Answer
-call_answer ns bs ps = after_tests Done (size_tests 0 ns ++ (buffer_tests 0 bs ++ place_tests ps))
+call_answer ns bs ps = after_tests (Ok tt) (size_tests 0 ns ++ (buffer_tests 0 bs ++ place_tests ps))

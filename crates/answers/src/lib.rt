@@ -9,10 +9,9 @@ ghost use Rattle.std.specs.Prelude.{◌≡◌, ◌*◌, ltb, get_or};
 ghost use Rattle.answers.specs.Answers.{number_of, carried_by, is_done, first_of};
 ghost use Rattle.answers.specs.Tests.{size_taken, size_test, buffer_test, place_test};
 
+// Why a call was refused (R3).
 #[derive(Clone, Copy)]
-pub enum Answer {
-    // The call did its work.
-    Done,
+pub enum Refusal {
     // Refusal 1: the size of this index is 0 or above 16.
     Size(usize),
     // Refusal 2: the buffer of this index is shorter than its matrix.
@@ -29,19 +28,22 @@ pub enum Answer {
     NotFinite,
 }
 
+// What a call says: it did its work, or why not.
+pub type Answer = Result<(), Refusal>;
+
 // The number of the refusal (R3), 0 for done.
 pub fn number_of(v: Answer) -> usize
     ensures { result ≡ number_of v }
 {
     match v {
-        Answer::Done => 0,
-        Answer::Size(_) => 1,
-        Answer::Short(_) => 2,
-        Answer::Range(_) => 3,
-        Answer::Pivot(_) => 4,
-        Answer::Line(_) => 5,
-        Answer::Edition => 6,
-        Answer::NotFinite => 9,
+        Ok(()) => 0,
+        Err(Refusal::Size(_)) => 1,
+        Err(Refusal::Short(_)) => 2,
+        Err(Refusal::Range(_)) => 3,
+        Err(Refusal::Pivot(_)) => 4,
+        Err(Refusal::Line(_)) => 5,
+        Err(Refusal::Edition) => 6,
+        Err(Refusal::NotFinite) => 9,
     }
 }
 
@@ -50,14 +52,14 @@ pub fn carried_by(v: Answer) -> usize
     ensures { result ≡ get_or (carried_by v) 0 0 }
 {
     match v {
-        Answer::Done => 0,
-        Answer::Size(k) => k,
-        Answer::Short(k) => k,
-        Answer::Range(k) => k,
-        Answer::Pivot(k) => k,
-        Answer::Line(k) => k,
-        Answer::Edition => 0,
-        Answer::NotFinite => 0,
+        Ok(()) => 0,
+        Err(Refusal::Size(k)) => k,
+        Err(Refusal::Short(k)) => k,
+        Err(Refusal::Range(k)) => k,
+        Err(Refusal::Pivot(k)) => k,
+        Err(Refusal::Line(k)) => k,
+        Err(Refusal::Edition) => 0,
+        Err(Refusal::NotFinite) => 0,
     }
 }
 
@@ -65,22 +67,18 @@ pub fn carried_by(v: Answer) -> usize
 pub fn is_done(v: Answer) -> bool
     ensures { result ≡ is_done v }
 {
-    number_of(v) == 0
+    v.is_ok()
 }
 
 // The answer so far, or refusal 1 where it is done and the k-th size n is not 1 to 16.
 pub fn then_size(v: Answer, k: usize, n: usize) -> Answer
     ensures { result ≡ first_of v (size_test k n) }
 {
-    if is_done(v) {
-        if size_taken(n) {
-            Answer::Done
-        } else {
-            Answer::Size(k)
-        }
-    } else {
-        v
+    v?;
+    if !size_taken(n) {
+        return Err(Refusal::Size(k));
     }
+    Ok(())
 }
 
 // The answer so far, or refusal 2 where it is done and the k-th buffer, of len numbers, has fewer
@@ -88,30 +86,22 @@ pub fn then_size(v: Answer, k: usize, n: usize) -> Answer
 pub fn then_buffer(v: Answer, k: usize, cells: usize, len: usize) -> Answer
     ensures { result ≡ first_of v (buffer_test k cells len) }
 {
-    if is_done(v) {
-        if len < cells {
-            Answer::Short(k)
-        } else {
-            Answer::Done
-        }
-    } else {
-        v
+    v?;
+    if len < cells {
+        return Err(Refusal::Short(k));
     }
+    Ok(())
 }
 
 // The same for a matrix of rows by cols.
 pub fn then_matrix(v: Answer, k: usize, rows: usize, cols: usize, len: usize) -> Answer
     ensures { result ≡ first_of v (buffer_test k (rows * cols) len) }
 {
-    if is_done(v) {
-        if is_shorter(len, rows, cols) {
-            Answer::Short(k)
-        } else {
-            Answer::Done
-        }
-    } else {
-        v
+    v?;
+    if is_shorter(len, rows, cols) {
+        return Err(Refusal::Short(k));
     }
+    Ok(())
 }
 
 // The answer so far, or refusal 3 where it is done and i is not below n: k is 0 for a row and 1 for
@@ -119,15 +109,11 @@ pub fn then_matrix(v: Answer, k: usize, rows: usize, cols: usize, len: usize) ->
 pub fn then_place(v: Answer, k: usize, i: usize, n: usize) -> Answer
     ensures { result ≡ first_of v (place_test k i n) }
 {
-    if is_done(v) {
-        if i < n {
-            Answer::Done
-        } else {
-            Answer::Range(k)
-        }
-    } else {
-        v
+    v?;
+    if i >= n {
+        return Err(Refusal::Range(k));
     }
+    Ok(())
 }
 
 // Whether n is 1 to 16.

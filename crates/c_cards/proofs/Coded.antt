@@ -4,7 +4,7 @@ use mathlib.Core.List.{List, [], ◌∷◌, ◌++◌}
 use Prim.Native.Nat.{ℕ, ◌≤◌}
 use native.Mathlib.Omega.{arith}
 use lib.Ieee.{Float, Format}
-use Rattle.answers.specs.declared.Answer.{Answer}
+use Rattle.answers.specs.Answers.{Answer}
 use Rattle.answers.specs.Tests.{lent, buffer_tests}
 use Rattle.card_text.specs.Card as card
 use Rattle.card_text.specs.Card.{states_of, observations_of, card_answer, read_answer}

@@ -1,8 +1,7 @@
 -- What reading a card into lent buffers and two lent numbers promises. Definitions only.
 use Rattle.std.specs.Prelude.{◌≡◌, List, ℕ, length, Float}
 use Rattle.std.specs.Float.{Format}
-use Rattle.answers.specs.declared.Answer.{Answer}
-use Rattle.answers.specs.Answers.{settled}
+use Rattle.answers.specs.Answers.{settled, Answer}
 use Rattle.card_text.specs.Card.{states_of, observations_of, read_answer}
 use Rattle.cards.specs.Read.{told, CardRead}
 

@@ -1,8 +1,7 @@
 -- What writing a card into a lent buffer of bytes and a lent number promises, and what its length alone does. Definitions only.
 use Rattle.std.specs.Prelude.{◌≡◌, List, ℕ, length, Float}
 use Rattle.std.specs.Float.{Format}
-use Rattle.answers.specs.declared.Answer.{Answer}
-use Rattle.answers.specs.Answers.{settled}
+use Rattle.answers.specs.Answers.{settled, Answer}
 use Rattle.card_text.specs.Spelling.{card_length}
 use Rattle.cards.specs.Written.{sizes_answer, write_answer, measured, CardWritten}
 

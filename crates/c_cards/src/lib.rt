@@ -6,8 +6,6 @@ ghost use Rattle.c_codes.specs.Code.{Told};
 ghost use Rattle.c_cards.specs.Into.{CardInto};
 ghost use Rattle.c_cards.specs.Out.{CardOut, LengthOut};
 
-use cards::{Card, Written};
-
 // The card's matrices in the front of a, q, h and r, and its sizes in states and observations; a
 // refused call leaves all of them as lent.
 #[unsafe(no_mangle)]
@@ -23,12 +21,12 @@ pub extern "C" fn yurgamysh_card_read(
     ensures { Told (λ v. CardInto binary32 8 card.now a.old q.old h.old r.old states.old observations.old v a.new q.new h.new r.new states.new observations.new) result }
 {
     match cards::read(card, a, q, h, r) {
-        Card::Sizes(n, m) => {
+        Ok((n, m)) => {
             *states = n;
             *observations = m;
             0
         }
-        Card::Refused(v) => c_codes::code_of(v),
+        Err(why) => c_codes::code_of(Err(why)),
     }
 }
 
@@ -48,11 +46,11 @@ pub extern "C" fn yurgamysh_card_write(
     ensures { Told (λ v. CardOut binary32 8 states observations a.now q.now h.now r.now card.old length.old v card.new length.new) result }
 {
     match cards::write(states, observations, &*a, &*q, &*h, &*r, card) {
-        Written::Length(l) => {
+        Ok(l) => {
             *length = l;
             0
         }
-        Written::Refused(v) => c_codes::code_of(v),
+        Err(v) => c_codes::code_of(Err(v)),
     }
 }
 
@@ -66,10 +64,10 @@ pub extern "C" fn yurgamysh_card_length(
     ensures { Told (λ v. LengthOut 8 states observations length.old v length.new) result }
 {
     match cards::length_of(states, observations) {
-        Written::Length(l) => {
+        Ok(l) => {
             *length = l;
             0
         }
-        Written::Refused(v) => c_codes::code_of(v),
+        Err(v) => c_codes::code_of(Err(v)),
     }
 }

@@ -1,42 +1,29 @@
--- Reading a cell into a lent number, by the two cases of what `get` finds. Assumes nothing.
-use mathlib.Core.Path.{◌≡◌, refl, sym, ap, ◌∙◌}
-use mathlib.Core.Bool.{Bool, true, false, cond}
+-- Reading a cell into a lent number, where `get` found one; and two results that keep the promise are equal. Assumes nothing.
+use mathlib.Core.Path.{◌≡◌, refl, sym, ◌∙◌}
 use mathlib.Core.List.{List}
 use Prim.Native.Nat.{ℕ}
 use native.Mathlib.Omega.{arith}
 use lib.ListN.{length}
 use lib.Ieee.{Float}
-use Rattle.answers.specs.declared.Answer.{Answer}
-use Rattle.answers.specs.Answers.{is_done}
-use Rattle.row_major.specs.declared.Read.{Read}
-use Rattle.row_major.specs.declared.Read.TheVariants.{Value, Refused}
-use Rattle.grids.specs.Grid.{cell}
+use Rattle.std.proofs.Common.{Result, Ok, Err}
+use Rattle.answers.specs.Answers.{Answer}
+use Rattle.answers.specs.declared.Refusal.{Refusal}
 use Rattle.grids.specs.Cells.{cell_answer}
-use Rattle.row_major.specs.Get.{Got}
-use Rattle.c_codes.specs.Code.{code_of, Told}
+use Rattle.row_major.specs.Get.{Got, read_as}
+use Rattle.c_codes.specs.Code.{Told}
 use Rattle.c_cells.specs.Cell.{GotInto}
 use Rattle.c_codes.proofs.Codes.{done_is_zero}
 
-by_value : (b : Bool) (x y : Float) (w : Answer) → Value y ≡ cond b (Value x) (Refused w) → (b ≡ true) × (y ≡ x)
-by_value true x y w e = (refl, cc)
-by_value false x y w e = let z : ◌≡◌ {A = ℕ} 0 1 = cc in absurd (omega arith)
+by_value : (w : Answer) (x y : Float) → Ok y ≡ read_as w x → (w ≡ Ok tt) × (y ≡ x)
+by_value (Ok tt) x y e = (refl, cc)
+by_value (Err u) x y e = let z : ◌≡◌ {A = ℕ} 0 1 = cc in absurd (omega arith)
 
-by_refusal : (b : Bool) (x : Float) (v w : Answer) → Refused v ≡ cond b (Value x) (Refused w) → (b ≡ false) × (v ≡ w)
-by_refusal true x v w e = let z : ◌≡◌ {A = ℕ} 0 1 = cc in absurd (omega arith)
-by_refusal false x v w e = (refl, cc)
-
-module _ (rows cols : ℕ) (m : List Float) (r c : ℕ) (x : Float) where
-  -- a number was found: it is the cell's, and the code is 0
-  pub found : {g : Read} {y : Float} → Got rows cols m r c g → g ≡ Value y → Told (λ v. GotInto rows cols m r c x v y) 0
-  found got e =
-      let k = by_value _ _ _ _ (sym e ∙ got) in
-      record { answer = cell_answer rows cols (length m) r c; code = sym (done_is_zero _ k.0); kept = record { answer = refl; after = rw k.0 k.1 } }
-
-  -- the call was refused: the lent number stays, and the code is the refusal's
-  pub refused : {g : Read} {u : Answer} {code : ℕ} → Got rows cols m r c g → g ≡ Refused u → code ≡ code_of u → Told (λ v. GotInto rows cols m r c x v x) code
-  refused {u = u} got e h =
-      let k = by_refusal (is_done (cell_answer rows cols (length m) r c)) (cell cols m r c) u (cell_answer rows cols (length m) r c) (sym e ∙ got) in
-      record { answer = cell_answer rows cols (length m) r c; code = h ∙ ap code_of k.1; kept = record { answer = refl; after = rw k.0 } }
+-- a number was found: it is the cell's, and the code is 0
+pub found : (rows cols : ℕ) (m : List Float) (r c : ℕ) (x : Float) {g : Result Float Refusal} {y : Float}
+    → Got rows cols m r c g → g ≡ Ok y → Told (λ v. GotInto rows cols m r c x v y) 0
+found rows cols m r c x got e =
+    let k = by_value (cell_answer rows cols (length m) r c) _ _ (sym e ∙ got) in
+    record { answer = Ok tt; code = sym (done_is_zero (Ok tt) refl); kept = record { answer = sym k.0; after = k.1 } }
 
 -- two results that keep the promise are equal
 pub got_into_unique : {rows cols r c : ℕ} {m : List Float} {x x' x'' : Float} {v w : Answer}

@@ -1,7 +1,6 @@
 -- What reading a cell into a lent number promises. Definitions only.
 use Rattle.std.specs.Prelude.{◌≡◌, List, ℕ, length, Float}
-use Rattle.answers.specs.declared.Answer.{Answer}
-use Rattle.answers.specs.Answers.{settled}
+use Rattle.answers.specs.Answers.{settled, Answer}
 use Rattle.grids.specs.Grid.{cell}
 use Rattle.grids.specs.Cells.{cell_answer}
 

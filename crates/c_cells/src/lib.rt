@@ -1,7 +1,8 @@
 // The cells of a matrix, for C and Rust programs: one read or written, copies, fills.
 //
 // A slice arrives as a pointer and a length. Each function hands on to a public function of
-// `row_major`, says its answer as a code, and keeps that function's promise.
+// `row_major`, says its answer as a code, and keeps that function's promise. Alike as they are, each is a
+// name that C links.
 #![tactic(auto)]
 
 ghost use Rattle.numbers.specs.Reciprocal.{one};
@@ -9,8 +10,6 @@ ghost use Rattle.numbers.specs.Sums.{plus0};
 ghost use Rattle.grids.specs.Cells.{Set, SetBoth, RowCopied, ColumnCopied, Copied, Filled, DiagonalSet, Comatrix};
 ghost use Rattle.c_codes.specs.Code.{Told};
 ghost use Rattle.c_cells.specs.Cell.{GotInto};
-
-use row_major::Read;
 
 // The number in the cell (row, column) of the rows by cols matrix m in value, which a refused call
 // leaves as lent.
@@ -26,11 +25,11 @@ pub extern "C" fn yurgamysh_get(
     ensures { Told (λ v. GotInto rows cols m.now row column value.old v value.new) result }
 {
     match row_major::get(rows, cols, &*m, row, column) {
-        Read::Value(x) => {
+        Ok(x) => {
             *value = x;
             0
         }
-        Read::Refused(v) => c_codes::code_of(v),
+        Err(why) => c_codes::code_of(Err(why)),
     }
 }
 

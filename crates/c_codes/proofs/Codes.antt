@@ -3,43 +3,43 @@ use mathlib.Core.Path.{◌≡◌, refl, sym, ap, subst, ◌∙◌}
 use mathlib.Core.Bool.{true}
 use Prim.Native.Nat.{ℕ, zero, suc, ◌/◌, ◌%◌, ◌≤◌}
 use native.Mathlib.Omega.{arith}
-use Rattle.answers.specs.declared.Answer.{Answer}
-use Rattle.answers.specs.declared.Answer.TheVariants.{Done, Size, Short, Range, Pivot, Line, Edition, NotFinite}
-use Rattle.answers.specs.Answers.{number_of, is_done}
+use Rattle.std.proofs.Common.{Ok, Err}
+use Rattle.answers.specs.declared.Refusal.TheVariants.{Size, Short, Range, Pivot, Line, Edition, NotFinite}
+use Rattle.answers.specs.Answers.{number_of, is_done, Answer}
 use Rattle.answers.proofs.Kept.{is_done_lem}
 use Rattle.c_codes.specs.Code.{carried, code_of, Told}
 
 -- a refusal's number is at most 9, so no code is above 999
 pub at_most_9 : (v : Answer) → number_of v ≤ 9
-at_most_9 Done = omega arith
-at_most_9 (Size k) = omega arith
-at_most_9 (Short k) = omega arith
-at_most_9 (Range k) = omega arith
-at_most_9 (Pivot k) = omega arith
-at_most_9 (Line k) = omega arith
-at_most_9 Edition = omega arith
-at_most_9 NotFinite = omega arith
+at_most_9 (Ok tt) = omega arith
+at_most_9 (Err (Size k)) = omega arith
+at_most_9 (Err (Short k)) = omega arith
+at_most_9 (Err (Range k)) = omega arith
+at_most_9 (Err (Pivot k)) = omega arith
+at_most_9 (Err (Line k)) = omega arith
+at_most_9 (Err Edition) = omega arith
+at_most_9 (Err NotFinite) = omega arith
 
 -- an answer is its number and what it carries
 abbrev of_parts : ℕ → ℕ → Answer
-of_parts zero k = Done
-of_parts (suc zero) k = Size k
-of_parts (suc (suc zero)) k = Short k
-of_parts (suc (suc (suc zero))) k = Range k
-of_parts (suc (suc (suc (suc zero)))) k = Pivot k
-of_parts (suc (suc (suc (suc (suc zero))))) k = Line k
-of_parts (suc (suc (suc (suc (suc (suc zero)))))) k = Edition
-of_parts (suc (suc (suc (suc (suc (suc (suc n))))))) k = NotFinite
+of_parts zero k = Ok tt
+of_parts (suc zero) k = Err (Size k)
+of_parts (suc (suc zero)) k = Err (Short k)
+of_parts (suc (suc (suc zero))) k = Err (Range k)
+of_parts (suc (suc (suc (suc zero)))) k = Err (Pivot k)
+of_parts (suc (suc (suc (suc (suc zero))))) k = Err (Line k)
+of_parts (suc (suc (suc (suc (suc (suc zero)))))) k = Err Edition
+of_parts (suc (suc (suc (suc (suc (suc (suc n))))))) k = Err NotFinite
 
 parts : (v : Answer) → v ≡ of_parts (number_of v) (carried v)
-parts Done = refl
-parts (Size k) = refl
-parts (Short k) = refl
-parts (Range k) = refl
-parts (Pivot k) = refl
-parts (Line k) = refl
-parts Edition = refl
-parts NotFinite = refl
+parts (Ok tt) = refl
+parts (Err (Size k)) = refl
+parts (Err (Short k)) = refl
+parts (Err (Range k)) = refl
+parts (Err (Pivot k)) = refl
+parts (Err (Line k)) = refl
+parts (Err Edition) = refl
+parts (Err NotFinite) = refl
 
 same_parts : (v w : Answer) → number_of v ≡ number_of w → carried v ≡ carried w → v ≡ w
 same_parts v w n k = parts v ∙ rw (n, k) (sym (parts w))
@@ -55,7 +55,7 @@ unfolding code_of
 read_back v h = (omega arith, omega arith)
 
 -- The code is 0 exactly where the call did its work.
-pub zero_is_done : (v : Answer) → code_of v ≡ 0 → v ≡ Done
+pub zero_is_done : (v : Answer) → code_of v ≡ 0 → v ≡ Ok tt
 unfolding code_of
 zero_is_done v e = let z : number_of v ≡ 0 = omega arith in parts v ∙ rw z
 

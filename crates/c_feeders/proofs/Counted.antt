@@ -7,8 +7,7 @@ use lib.Dec.{eqb}
 use lib.ListN.{length}
 use lib.Ieee.{Float}
 use borrow.Author.Tests.{eq-eqb, ne_eqb}
-use Rattle.answers.specs.declared.Answer.{Answer}
-use Rattle.answers.specs.Answers.{is_done, settled}
+use Rattle.answers.specs.Answers.{is_done, settled, Answer}
 use Rattle.c_codes.specs.Code.{code_of}
 use Rattle.c_codes.proofs.Codes.{zero_is_done, done_is_zero}
 use Rattle.one_state.specs.declared.OneState.{OneState}

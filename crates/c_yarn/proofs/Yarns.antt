@@ -4,9 +4,8 @@ use mathlib.Core.Bool.{false, true≢false}
 use Prim.Native.Nat.{ℕ}
 use lib.Dec.{eqb}
 use lib.Ieee.{Float}
-use Rattle.answers.specs.declared.Answer.{Answer}
-use Rattle.answers.specs.declared.Answer.TheVariants.{Done}
-use Rattle.answers.specs.Answers.{is_done}
+use Rattle.std.proofs.Common.{Ok}
+use Rattle.answers.specs.Answers.{is_done, Answer}
 use Rattle.c_codes.specs.Code.{code_of}
 use Rattle.c_codes.proofs.Codes.{done_is_zero}
 use Rattle.one_state.specs.declared.OneState.{OneState}
@@ -18,12 +17,12 @@ use Rattle.c_yarn.specs.Yarn.{CorrectedYarn, Tried}
 
 -- the two ways out of a correction by value; c is its code
 module _ (s : OneState) (z : Float) (c : ℕ) (t : OneState) where
-  pub accepted : corrected s z ≡ Accepted t → c ≡ code_of Done → Tried s z c t
+  pub accepted : corrected s z ≡ Accepted t → c ≡ code_of (Ok tt) → Tried s z c t
   accepted e k =
       record {
         coded = k ∙ sym (ap (λ (r : Corrected). code_of (answer_of r)) e);
         handed = sym (ap handed_back e);
-        counted = λ q. absurd (true≢false (sym (ap (λ (n : ℕ). eqb n 0) (k ∙ done_is_zero Done refl)) ∙ q));
+        counted = λ q. absurd (true≢false (sym (ap (λ (n : ℕ). eqb n 0) (k ∙ done_is_zero (Ok tt) refl)) ∙ q));
       }
 
   pub refused : (v : Answer) → corrected s z ≡ Refused t v → c ≡ code_of v → Tried s z c t

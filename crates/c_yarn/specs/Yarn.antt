@@ -1,6 +1,6 @@
 -- The one-state filter behind a pointer: what a correction promises. Definitions only.
 use Rattle.std.specs.Prelude.{◌≡◌, false, ℕ, eqb, Float}
-use Rattle.answers.specs.declared.Answer.{Answer}
+use Rattle.answers.specs.Answers.{Answer}
 use Rattle.c_codes.specs.Code.{code_of}
 use Rattle.one_state.specs.declared.OneState.{OneState}
 use Rattle.one_state.specs.OneState.{with_blind, corrected, answer_of, handed_back}

@@ -6,7 +6,6 @@ ghost use Rattle.one_state.specs.OneState.{predicted};
 ghost use Rattle.c_codes.specs.Code.{Told};
 ghost use Rattle.c_yarn.specs.Yarn.{CorrectedYarn, Tried};
 
-use answers::Answer;
 use one_state::{Corrected, OneState};
 
 // The record with x and p as the model moves them.
@@ -46,7 +45,7 @@ fn tried(s: OneState, z: f32) -> Trial
 {
     match s.correct(z) {
         Corrected::Accepted(renewed) => Trial {
-            code: c_codes::code_of(Answer::Done),
+            code: c_codes::code_of(Ok(())),
             after: renewed,
         },
         Corrected::Refused(blinded, why) => Trial {

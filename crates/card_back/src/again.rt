@@ -1,8 +1,18 @@
 // A card that is written again, compared with what a line expects.
+use answers::Refusal;
 use card_bytes::{expect, lend_bytes, written_met};
-use card_cells::Lengths;
-use cards::Written;
 use lists::{Seen, seen};
+
+// A model as its card has it: how many states and observations, and the matrices.
+#[derive(Clone, Copy)]
+pub struct Model<'a> {
+    pub states: usize,
+    pub observations: usize,
+    pub a: &'a [f32],
+    pub q: &'a [f32],
+    pub h: &'a [f32],
+    pub r: &'a [f32],
+}
 
 // What writing said: its code and, where the card is written, its length.
 #[derive(Clone, Copy)]
@@ -11,130 +21,52 @@ pub struct Writing {
     pub length: usize,
 }
 
-fn said_by(w: Written) -> Writing {
+fn said_by(w: Result<usize, Refusal>) -> Writing {
     match w {
-        Written::Length(l) => Writing { code: 0, length: l },
-        Written::Refused(v) => Writing {
-            code: c_codes::code_of(v),
+        Ok(l) => Writing { code: 0, length: l },
+        Err(why) => Writing {
+            code: c_codes::code_of(Err(why)),
             length: 0,
         },
     }
 }
 
-// Writes the matrices into the bytes, which are lent first: what the comparison finds.
-fn write_met(
-    o: Seen,
-    text: &[u8],
-    n: usize,
-    m: usize,
-    a: &[f32],
-    q: &[f32],
-    h: &[f32],
-    r: &[f32],
-    bytes: &mut [u8],
-) -> Seen {
+// Writes the model's card into the bytes, which are lent first: what the comparison finds.
+fn write_met(o: Seen, text: &[u8], m: Model<'_>, bytes: &mut [u8]) -> Seen {
     lend_bytes(bytes);
-    let w = said_by(cards::write(n, m, &*a, &*q, &*h, &*r, bytes));
+    let w = said_by(cards::write(m.states, m.observations, m.a, m.q, m.h, m.r, bytes));
     written_met(o, text, w.code, w.length, bytes)
 }
 
 // The same of so many bytes, at most 9,280; with more the line is lost.
-fn write_into(
-    o: Seen,
-    text: &[u8],
-    lent: usize,
-    n: usize,
-    m: usize,
-    a: &[f32],
-    q: &[f32],
-    h: &[f32],
-    r: &[f32],
-) -> Seen {
+fn write_into(o: Seen, text: &[u8], lent: usize, m: Model<'_>) -> Seen {
     let mut space = [0u8; 9280];
-    let bytes: &mut [u8] = &mut space;
-    if bytes.len() < lent {
+    if space.len() < lent {
         return seen::nothing(lines::LOST);
     }
-    write_met(o, text, n, m, &*a, &*q, &*h, &*r, &mut bytes[0..lent])
+    write_met(o, text, m, &mut space[..lent])
 }
 
-// Writes the matrices three times: into more bytes than the text has, into as many, and into one less.
+// Writes the card three times: into more bytes than the text has, into as many, and into one less.
 // No card has more than 9,260: with more, or with none, the line is lost.
-fn thrice(
-    o: Seen,
-    text: &[u8],
-    n: usize,
-    m: usize,
-    a: &[f32],
-    q: &[f32],
-    h: &[f32],
-    r: &[f32],
-) -> Seen {
+fn thrice(o: Seen, text: &[u8], m: Model<'_>) -> Seen {
     let len = text.len();
     if len == 0 || 9260 < len {
         return seen::nothing(lines::LOST);
     }
-    let longer = write_into(o, text, len + 20, n, m, &*a, &*q, &*h, &*r);
-    let exact = write_into(longer, text, len, n, m, &*a, &*q, &*h, &*r);
-    write_into(exact, text, len - 1, n, m, &*a, &*q, &*h, &*r)
+    let longer = write_into(o, text, len + 20, m);
+    let exact = write_into(longer, text, len, m);
+    write_into(exact, text, len - 1, m)
 }
 
-// Writes the matrices: what the comparison with the card and with the words at a position finds.
-fn again_from(
-    s: &[u8],
-    at: usize,
-    card: &[u8],
-    n: usize,
-    m: usize,
-    a: &[f32],
-    q: &[f32],
-    h: &[f32],
-    r: &[f32],
-) -> Seen {
+// Writes the model: what the comparison with the card and with the words at a position finds. With a card
+// of more than 9,260 bytes the line is lost.
+pub fn write_again(s: &[u8], at: usize, card: &[u8], m: Model<'_>) -> Seen {
     let mut space = [0u8; 9260];
-    let text: &mut [u8] = &mut space;
     let len = card.len();
-    if text.len() < len {
+    if space.len() < len {
         return seen::nothing(lines::LOST);
     }
-    let next = expect(s, at, card, &mut text[0..len]);
-    let made = &text[..];
-    thrice(seen::nothing(next), &made[0..len], n, m, &*a, &*q, &*h, &*r)
-}
-
-// The same of buffers of these lengths, each at most 272; with more the line is lost.
-pub fn write_again(
-    s: &[u8],
-    at: usize,
-    card: &[u8],
-    n: usize,
-    m: usize,
-    a: &[f32; 272],
-    q: &[f32; 272],
-    h: &[f32; 272],
-    r: &[f32; 272],
-    l: Lengths,
-) -> Seen {
-    let all_a: &[f32] = a;
-    let all_q: &[f32] = q;
-    let all_h: &[f32] = h;
-    let all_r: &[f32] = r;
-    let la = l.a;
-    let lq = l.q;
-    let lh = l.h;
-    let lr = l.r;
-    if all_a.len() < la || all_q.len() < lq || all_h.len() < lh || all_r.len() < lr {
-        return seen::nothing(lines::LOST);
-    }
-    again_from(
-        s,
-        at,
-        card,
-        n,
-        m,
-        &all_a[0..la],
-        &all_q[0..lq],
-        &all_h[0..lh],
-        &all_r[0..lr],
-    )
+    let next = expect(s, at, card, &mut space[..len]);
+    thrice(seen::nothing(next), &space[..len], m)
 }

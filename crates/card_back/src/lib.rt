@@ -3,4 +3,4 @@
 
 mod again;
 
-pub use again::write_again;
+pub use again::{Model, write_again};

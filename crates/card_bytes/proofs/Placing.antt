@@ -1,32 +1,21 @@
 -- The cases of what is expected of a card, by what the tests and the calls on the way found. Assumes nothing.
-use mathlib.Core.Path.{◌≡◌, refl, ap, ◌∙◌}
-use mathlib.Core.List.{List}
-use Prim.Native.Nat.{ℕ, ◌+◌, ◌≤◌, ◌<◌}
-use native.Mathlib.Nat.{le_antisymm}
-use native.Mathlib.Numerals.{add-one, unary_clauses}
+use mathlib.Core.Path.{◌≡◌, refl, sym, ap, ◌∙◌, subst}
+use mathlib.Core.List.{List, ◌++◌}
+use Prim.Native.Nat.{ℕ, ◌+◌, ◌-◌, ◌≤◌, ◌<◌}
+use native.Mathlib.Numerals.{add-one}
 use native.Mathlib.Omega.{arith}
-use lib.ListN.{length, set}
-use lib.Seq.{sets}
-use borrow.Author.Tests.{lt-ltb, le-ltb}
-use Rattle.lines.specs.declared.words.Word.{Word}
-use Rattle.lines.specs.Word.{word_at, lost}
-use Rattle.card_bytes.specs.Expected.{quiet_text, text_after, word_after, texts_after, words_after, expected_text, expected_next}
+use lib.ListN.{length, take, drop}
+use lib.Seq.{sets, sets-eq}
+use borrow.Rule.Slice.PartMut.{put_mid}
+use Rattle.std.proofs.lemmas.List.{append_assoc, drop-drop}
+use Rattle.card_bytes.specs.Expected.{quiet_text, text_after, word_after, texts_after, words_after}
 
 -- ---- one place
--- eight stores
-pub quiet_stores :
-    (t : List ℕ) (p : ℕ) →
-    set (set (set (set (set (set (set (set t p 55) (p + 1) 102) (p + 2) 99) (p + 3) 48) (p + 4) 48) (p + 5) 48) (p + 6) 48) (p + 7) 48 ≡ sets t p quiet_text
-quiet_stores t p = simp unary_clauses
-
-module _ (s : List ℕ) (at : ℕ) (t : List ℕ) (w : Word) (read : w ≡ word_at s at) where
-  pub no_place : length t < w.bits + 8 → (lost.next ≡ word_after s at (length t)) × (t ≡ text_after s at t)
-  unfolding word_after text_after
-  no_place h = (rw (← read, lt-ltb (length t) (w.bits + 8) h), rw (← read, lt-ltb (length t) (w.bits + 8) h))
-
-  pub a_place : w.bits + 8 ≤ length t → (t' : List ℕ) → t' ≡ sets t w.bits quiet_text → (w.next ≡ word_after s at (length t)) × (t' ≡ text_after s at t)
-  unfolding word_after text_after
-  a_place h t' e = (rw (← read, le-ltb (length t) (w.bits + 8) h), rw (← read, le-ltb (length t) (w.bits + 8) h, e))
+-- `7fc00000` copied over eight bytes
+pub quiet_put : (t ys : List ℕ) (p : ℕ) → p + 8 ≤ length t → ys ≡ quiet_text → put_mid p (p + 8 - p) t ys ≡ sets t p quiet_text
+quiet_put t ys p h e =
+    let eight : p + 8 - p ≡ 8 = omega arith in
+    subst (λ n. put_mid p n t ys ≡ sets t p quiet_text) (sym eight) (subst (λ l. put_mid p 8 t l ≡ sets t p quiet_text) (sym e) (ap (λ r. take p t ++ (quiet_text ++ r)) (drop-drop 8 p t) ∙ sym (append_assoc (take p t) quiet_text (drop (p + 8) t)) ∙ sym (sets-eq quiet_text t p h)))
 
 -- ---- all of them
 -- of the places that the words from `at` on name, i are in the text
@@ -53,25 +42,3 @@ module _ (s : List ℕ) (at : ℕ) (t : List ℕ) (many : ℕ) where
     made = rw (add-one i, f, r.made, r.place);
     place = rw (add-one i, e, r.whole, r.place);
   }
-
-  pub all_placed : (text : List ℕ) (next i : ℕ) → many ≤ i → Placed s at t many text next i → (next ≡ words_after s at (length t) many) × (text ≡ texts_after s at t many)
-  all_placed text next i k r =
-      let e : i ≡ many = le_antisymm r.within k in
-      (r.place ∙ ap (words_after s at (length t)) e, r.made ∙ ap (texts_after s at t) e)
-
--- ---- what is expected, of a text that is a copy of the card
-module _ (s : List ℕ) (at : ℕ) (card t : List ℕ) (copied : t ≡ card) (w : Word) (read : w ≡ word_at s at) where
-  pub too_many : length t < w.bits → (lost.next ≡ expected_next s at (length card)) × (t ≡ expected_text s at card)
-  unfolding expected_next expected_text
-  too_many h =
-      let few : length card < w.bits = rw copied at h in
-      (rw (← read, lt-ltb (length card) w.bits few), rw (← read, lt-ltb (length card) w.bits few, copied))
-
-  pub expected :
-      w.bits ≤ length t → (next : ℕ) (text : List ℕ) →
-      next ≡ words_after s w.next (length t) w.bits → text ≡ texts_after s w.next t w.bits →
-      (next ≡ expected_next s at (length card)) × (text ≡ expected_text s at card)
-  unfolding expected_next expected_text
-  expected h next text e f =
-      let enough : w.bits ≤ length card = rw copied at h in
-      (rw (e, ← read, le-ltb (length card) w.bits enough, copied), rw (f, ← read, le-ltb (length card) w.bits enough, copied))

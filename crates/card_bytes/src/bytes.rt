@@ -12,14 +12,11 @@ const BYTES: usize = 103;
 fn wanted_byte(text: &[u8], i: usize) -> u8
     ensures { result ≡ wanted_byte text.now i }
 {
-    if i < text.len() {
-        text[i]
-    } else {
-        lent_byte(i)
-    }
+    text.get(i).copied().unwrap_or(lent_byte(i))
 }
 
 // Byte i, which is x, against that.
+#[tactic(auto, unfolding(crate::specs::Bytes::byte_met))]
 fn byte_met(o: Seen, text: &[u8], i: usize, x: u8) -> Seen
     ensures { result ≡ byte_met o text.now i x }
 {
@@ -32,10 +29,8 @@ pub fn bytes_met(o: Seen, text: &[u8], bytes: &[u8]) -> Seen
     ensures { result ≡ bytes_met o text.now bytes.now (length bytes.now) }
 {
     let mut more = o;
-    let mut i: usize = 0;
-    while i < bytes.len() {
-        more = byte_met(more, text, i, bytes[i]);
-        i += 1;
+    for (i, x) in bytes.iter().enumerate() {
+        more = byte_met(more, text, i, *x);
     }
     more
 }

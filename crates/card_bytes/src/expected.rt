@@ -9,18 +9,12 @@ fn put_quiet(text: &mut [u8], p: usize)
     requires { p + 8 ≤ length text.old }
     ensures { text.new ≡ sets text.old p quiet_text }
 {
-    text[p] = b'7';
-    text[p + 1] = b'f';
-    text[p + 2] = b'c';
-    text[p + 3] = b'0';
-    text[p + 4] = b'0';
-    text[p + 5] = b'0';
-    text[p + 6] = b'0';
-    text[p + 7] = b'0';
+    text[p..p + 8].copy_from_slice(b"7fc00000");
 }
 
 // Puts it at the position that the word at `at` says: the position behind the word. Where the text has
 // no such place the line is lost.
+#[tactic(auto, unfolding(crate::specs::Expected::word_after, crate::specs::Expected::text_after))]
 fn put_one(s: &[u8], at: usize, text: &mut [u8]) -> usize
     ensures behind { result ≡ word_after s.now at (length text.old) }
     ensures put { text.new ≡ text_after s.now at text.old }
@@ -40,35 +34,22 @@ fn put_all(s: &[u8], at: usize, many: usize, text: &mut [u8]) -> usize
     ensures put { text.new ≡ texts_after s.now at text.old many }
 {
     let mut next = at;
-    let mut i: usize = 0;
-    while i < many {
+    for _ in 0..many {
         next = put_one(s, next, text);
-        i += 1;
     }
     next
-}
-
-// Copies the card.
-fn copy(card: &[u8], text: &mut [u8])
-    requires { length text.old ≡ length card.now }
-    ensures { text.new ≡ card.now }
-{
-    let mut i: usize = 0;
-    while i < card.len() {
-        text[i] = card[i];
-        i += 1;
-    }
 }
 
 // Makes the text that is expected of a card of its length: how many places there are the word at `at`
 // says, and those behind it where. The position behind them comes back; with more places than bytes the
 // line is lost.
+#[tactic(auto, unfolding(crate::specs::Expected::expected_next, crate::specs::Expected::expected_text))]
 pub fn expect(s: &[u8], at: usize, card: &[u8], text: &mut [u8]) -> usize
     requires { length text.old ≡ length card.now }
     ensures behind { result ≡ expected_next s.now at (length card.now) }
     ensures made { text.new ≡ expected_text s.now at card.now }
 {
-    copy(card, text);
+    text.copy_from_slice(card);
     let w = lines::word_at(s, at);
     let many = w.bits as usize;
     if text.len() < many {

@@ -13,9 +13,7 @@ pub fn lent_byte(i: usize) -> u8
 pub fn lend_bytes(bytes: &mut [u8])
     ensures { bytes.new ≡ lent_bytes (length bytes.old) bytes.old }
 {
-    let mut i: usize = 0;
-    while i < bytes.len() {
+    for i in 0..bytes.len() {
         bytes[i] = lent_byte(i);
-        i += 1;
     }
 }

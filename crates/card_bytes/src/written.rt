@@ -11,6 +11,7 @@ pub const CODE: usize = 104;
 pub const LENGTH: usize = 105;
 
 // The number that was found, against the one that is expected.
+#[tactic(auto, unfolding(crate::specs::Written::number_met))]
 fn number_met(o: Seen, buffer: usize, want: usize, found: usize) -> Seen
     ensures { result ≡ number_met o buffer want found }
 {
@@ -27,12 +28,13 @@ fn number_met(o: Seen, buffer: usize, want: usize, found: usize) -> Seen
 
 // What writing said, its code and a length, and what the bytes hold: the text is expected in front, with 0
 // and its length; or, where it is longer than the bytes, 204 and every byte as it was lent.
+#[tactic(auto, unfolding(crate::specs::Written::written_met))]
 pub fn written_met(o: Seen, text: &[u8], code: usize, length: usize, bytes: &[u8]) -> Seen
     ensures { result ≡ written_met o text.now code length bytes.now }
 {
     if bytes.len() < text.len() {
         let refused = number_met(o, CODE, 204, code);
-        return bytes_met(refused, &text[0..0], bytes);
+        return bytes_met(refused, &[], bytes);
     }
     let done = number_met(o, CODE, 0, code);
     let long = number_met(done, LENGTH, text.len(), length);

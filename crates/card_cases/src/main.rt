@@ -26,29 +26,16 @@
 #![tactic(auto)]
 
 mod cases;
-mod stream;
 
 use std::io;
 
-// 2³² fills of the buffer are more than any list has.
 fn main(rt: HostRuntime) -> io::Result<()> {
     let mut space = [0u8; 65536];
-    let buffer: &mut [u8] = &mut space;
-    let mut bytes = [0u8; 12288];
-    let base: &mut [u8] = &mut bytes;
-    let mut input = rt.reader();
+    let mut base = [0u8; 12288];
     let mut v = cases::start();
-    let mut kept: usize = 0;
-    let mut turns: u64 = 0x1_0000_0000;
-    while 0 < turns {
-        let fed = stream::feed(&rt, &mut input, v, kept, buffer, base)?;
-        v = fed.v;
-        kept = fed.kept;
-        if fed.more {
-            turns -= 1;
-        } else {
-            turns = 0;
-        }
-    }
-    card_tally::print::counts(&rt, v.t)
+    refills::feed(&mut rt.reader(), &mut space, |s| {
+        v = cases::add_lines(&rt, v, s, &mut base)?;
+        Ok(())
+    })?;
+    println!(rt; "{}", v.t)
 }

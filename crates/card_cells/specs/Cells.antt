@@ -1,5 +1,5 @@
 -- The comparison of a buffer with what a line expects. Definitions only.
-use Rattle.std.specs.Prelude.{cond, ◌&&◌, List, ℕ, zero, suc, ltb, leb, get_or, Float}
+use Rattle.std.specs.Prelude.{cond, ◌&&◌, List, ℕ, zero, suc, ltb, leb, length, get_or, Float}
 use Rattle.std.specs.Float.{nan}
 use Rattle.lines.specs.Pattern.{bits_of, same_bits}
 use Rattle.lists.specs.declared.seen.Seen.{Seen}
@@ -20,6 +20,6 @@ unfoldable pub all_met : List ℕ → Seen → ℕ → ℕ → List Float → �
 all_met s o b k l zero = o
 all_met s o b k l (suc n) = cell_met s (all_met s o b k l n) b k n (get_or l n nan)
 
--- the same, at most 272; with more, or with more words than numbers, the line is lost
-unfoldable pub cells_met : List ℕ → Seen → ℕ → ℕ → List Float → ℕ → Seen
-cells_met s o b k l len = cond (leb len 272 && leb k len) (all_met s o b k l len) (go_to lost.next o)
+-- all of them, at most 272; with more, or with more words than numbers, the line is lost
+unfoldable pub cells_met : List ℕ → Seen → ℕ → ℕ → List Float → Seen
+cells_met s o b k l = cond (leb (length l) 272 && leb k (length l)) (all_met s o b k l (length l)) (go_to lost.next o)

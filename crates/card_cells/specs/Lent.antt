@@ -18,6 +18,6 @@ abbrev pub zeros : List Float
 zeros = replicate 272 (of_bits binary32 0)
 
 -- r is the buffer of that number with that many cells lent, at most 272, each with its pattern.
--- That the cells reach so far follows; it is stated twice, since lending `&mut cells[..len]` asks for both.
+-- That the cells reach so far follows; it is said of the length, and of the numbers that are handed out.
 abbrev pub Lends : Lent → ℕ → ℕ → Type 0
 Lends r b len = (r.len ≤ length r.cells) × (r.len ≡ length (take r.len r.cells)) × (r ≡ record { cells = marked b (min len 272) zeros; len = min len 272 })

@@ -1,14 +1,19 @@
 // A card that is made of another: some of its bytes taken out, or a byte put in their place.
 
-// Bytes are taken out from a position on, so many. Where `put` says so a byte stands in their place,
-// each of a range in turn. And the position behind the words.
+// The bytes that are put in their place in turn: each from `low` to `high`.
+#[derive(Clone, Copy)]
+pub struct Range {
+    pub low: u32,
+    pub high: u32,
+}
+
+// Bytes are taken out from a position on, so many, and where there is a range a byte of it stands in
+// their place. And the position behind the words.
 #[derive(Clone, Copy)]
 pub struct Edit {
     pub at: usize,
     pub skip: usize,
-    pub put: bool,
-    pub low: u32,
-    pub high: u32,
+    pub put: Option<Range>,
     pub next: usize,
 }
 
@@ -17,62 +22,47 @@ pub struct Edit {
 pub fn edit_at(s: &[u8], from: usize, put: bool) -> Edit {
     let at = lines::word_at(s, from);
     let skip = lines::word_at(s, at.next);
+    let plain = Edit {
+        at: at.bits as usize,
+        skip: skip.bits as usize,
+        put: None,
+        next: skip.next,
+    };
     if !put {
-        return Edit {
-            at: at.bits as usize,
-            skip: skip.bits as usize,
-            put: false,
-            low: 0,
-            high: 0,
-            next: skip.next,
-        };
+        return plain;
     }
     let low = lines::word_at(s, skip.next);
     let high = lines::word_at(s, low.next);
     Edit {
-        at: at.bits as usize,
-        skip: skip.bits as usize,
-        put: true,
-        low: low.bits,
-        high: high.bits,
+        put: Some(Range {
+            low: low.bits,
+            high: high.bits,
+        }),
         next: high.next,
+        ..plain
     }
 }
 
 // Copies the bytes into the card from a position on: the position behind them. What the card has no
 // room for is left.
 fn copy(from: &[u8], card: &mut [u8], at: usize) -> usize {
-    let mut p = at;
-    let mut i: usize = 0;
-    while i < from.len() {
-        if card.len() <= p {
-            return p;
-        }
-        card[p] = from[i];
-        p += 1;
-        i += 1;
+    if card.len() < at {
+        return at;
     }
-    p
+    let many = from.len().min(card.len() - at);
+    card[at..at + many].copy_from_slice(&from[..many]);
+    at + many
 }
 
-// The position behind one, up to the largest number.
-fn behind(p: usize) -> usize {
-    if p < lines::LOST { p + 1 } else { p }
-}
-
-// Makes the card, with no byte put in yet where one has its place: how many bytes it has, or LOST
+// Makes the card, with no byte put in yet where one has its place: how many bytes it has, or nothing
 // where the base has no such bytes to take out.
-pub fn make(base: &[u8], e: Edit, card: &mut [u8]) -> usize {
-    let at = e.at;
-    let skip = e.skip;
-    if base.len() < at {
-        return lines::LOST;
-    }
-    if base.len() - at < skip {
-        return lines::LOST;
-    }
-    let p = copy(&base[0..at], card, 0);
-    let rest = at + skip;
-    let from = if e.put { behind(p) } else { p };
-    copy(&base[rest..], card, from)
+pub fn make(base: &[u8], e: Edit, card: &mut [u8]) -> Option<usize> {
+    let before = base.get(..e.at)?;
+    let behind = base.get(e.at..)?.get(e.skip..)?;
+    let p = copy(before, card, 0);
+    let from = match e.put {
+        Some(_) => p.saturating_add(1),
+        None => p,
+    };
+    Some(copy(behind, card, from))
 }

@@ -4,5 +4,5 @@
 mod edit;
 mod packed;
 
-pub use edit::{Edit, edit_at, make};
+pub use edit::{Edit, Range, edit_at, make};
 pub use packed::unpack;

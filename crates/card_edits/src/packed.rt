@@ -8,17 +8,12 @@ pub fn unpack(s: &[u8], at: usize, len: usize, card: &mut [u8]) -> usize {
         return lines::LOST;
     }
     let mut next = at;
-    let mut bits: u32 = 0;
-    let mut i: usize = 0;
-    while i < len {
-        if i % 4 == 0 {
-            let w = lines::word_at(s, next);
-            bits = w.bits;
-            next = w.next;
+    for word in card[..len].chunks_mut(4) {
+        let w = lines::word_at(s, next);
+        for (byte, x) in word.iter_mut().zip(w.bits.to_be_bytes()) {
+            *byte = x;
         }
-        card[i] = (bits / 0x100_0000) as u8;
-        bits = bits % 0x100_0000 * 0x100;
-        i += 1;
+        next = w.next;
     }
     next
 }

@@ -1,12 +1,12 @@
 -- Bytes put into a list, one behind the other: a text is put in parts, each where the one before it ended. Assumes nothing.
-use mathlib.Core.Path.{◌≡◌, refl, sym, ap, ap₂, ◌∙◌}
-use mathlib.Core.List.{List, [], ◌∷◌, ◌++◌}
-use Prim.Native.Nat.{ℕ, suc, ◌+◌, ◌<◌}
+use mathlib.Core.Path.{◌≡◌, sym, ap, ap₂, ◌∙◌}
+use mathlib.Core.List.{List, [], ◌∷◌, ◌++◌, append_assoc}
+use Prim.Native.Nat.{ℕ, suc, ◌+◌, ◌≤◌}
 use native.Mathlib.Nat.{add-zero}
-use native.Mathlib.Numerals.{add-one}
 use native.Mathlib.Omega.{arith}
-use lib.ListN.{length, get_or, set, take}
-use lib.Seq.{sets, take-suc, length-take-le}
+use lib.ListN.{length, set, take, drop}
+use lib.Seq.{sets, sets-eq, drop-drop}
+use borrow.Rule.Slice.PartMut.{put_mid}
 
 -- two texts
 both : (u t l : List ℕ) (p : ℕ) → sets (sets l p u) (p + length u) t ≡ sets l p (u ++ t)
@@ -25,8 +25,10 @@ module _ (l z : List ℕ) (p q : ℕ) (u : List ℕ) (e : z ≡ sets l p u) (pla
   pub then_byte : (x y : ℕ) → x ≡ y → set z q x ≡ sets l p (u ++ (y ∷ []))
   then_byte x y h = then_text (set z q x) (y ∷ []) (ap (set z q) h)
 
--- one byte more of a text
-pub copied : (l z t : List ℕ) (p i : ℕ) → i < length t → z ≡ sets l p (take i t) → set z (p + i) (get_or t i 0) ≡ sets l p (take (i + 1) t)
-copied l z t p i h e =
-    then_byte l z p (p + i) (take i t) e (ap (λ (j : ℕ). p + j) (sym (length-take-le i t (omega arith)))) (get_or t i 0) (get_or t i 0) refl
-    ∙ rw (add-one i, take-suc t i 0 h)
+-- bytes that are copied over a part of the list are put there
+pub copied : (l z t : List ℕ) (p k : ℕ) → z ≡ t → k ≡ length t → p + length t ≤ length l → put_mid p k l z ≡ sets l p t
+copied l z t p k e n h =
+    ap₂ (λ (y : List ℕ) (j : ℕ). take p l ++ (y ++ drop j (drop p l))) e n
+    ∙ ap (λ (r : List ℕ). take p l ++ (t ++ r)) (drop-drop (length t) p l)
+    ∙ sym (append_assoc (take p l) t (drop (p + length t) l))
+    ∙ sym (sets-eq t l p h)

@@ -8,10 +8,7 @@ pub fn put_bytes(into: &mut [u8], at: usize, bytes: &[u8]) -> usize
     ensures behind { result ≡ at + length bytes.now }
     ensures put { into.new ≡ sets into.old at bytes.now }
 {
-    let mut i: usize = 0;
-    while i < bytes.len() {
-        into[at + i] = bytes[i];
-        i += 1;
-    }
-    at + i
+    let end = at + bytes.len();
+    into[at..end].copy_from_slice(bytes);
+    end
 }

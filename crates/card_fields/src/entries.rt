@@ -15,13 +15,10 @@ pub fn put_entries(into: &mut [u8], at: usize, x: &[f32], k: usize) -> usize
     ensures behind { result ≡ at + k * 9 }
     ensures put { into.new ≡ sets into.old at (entries_text 8 (patterns binary32 k x.now) ++ (newline ∷ [])) }
 {
-    let mut p = at;
-    let mut i: usize = 1;
-    while i < k {
-        put_field(into, p, bits_of(x[i - 1]), b',');
-        p += 9;
-        i += 1;
+    let last = k - 1;
+    for i in 0..last {
+        put_field(into, at + i * 9, bits_of(x[i]), b',');
     }
-    put_field(into, p, bits_of(x[k - 1]), b'\n');
-    p + 9
+    put_field(into, at + last * 9, bits_of(x[last]), b'\n');
+    at + k * 9
 }

@@ -12,7 +12,8 @@ fn digit(x: u32) -> u8
     (48 + x + (x + 6) / 16 * 39) as u8
 }
 
-// Puts the digits of the number there, the highest first, and the byte `end` behind them.
+// Puts the digits of the number there, the highest first, and the byte `end` behind them. Nine stores and
+// no loop: nothing is counted, and no digit waits for another.
 pub fn put_field(into: &mut [u8], p: usize, e: u32, end: u8)
     requires { p + 9 ≤ length into.old }
     ensures { into.new ≡ sets into.old p (entry_text 8 e ++ (end ∷ [])) }

@@ -1,145 +1,80 @@
--- A count behind its key, by the bytes that the code looks at: where the first or the second is followed by a newline, these are the line. Assumes nothing.
-use mathlib.Core.Path.{◌≡◌, refl, sym, ap, ◌∙◌}
+-- A count behind its key, by the bytes that the code looks at: a digit and a newline, or two digits, of which the first is not 0, and a newline. Assumes nothing.
+use mathlib.Core.Path.{◌≡◌, refl}
 use mathlib.Core.Bool.{Bool, true, false, ◌&&◌, ◌||◌, cond}
 use mathlib.Core.List.{List, [], ◌∷◌}
-use Prim.Native.Nat.{ℕ, ◌+◌, ◌-◌, ◌*◌, ◌≤◌, ◌<◌}
-use native.Mathlib.Nat.{not-suc-le-zero, le_of_suc-le-suc}
+use Prim.Native.Nat.{ℕ, ◌+◌, ◌-◌, ◌*◌, ◌≤◌}
 use native.Mathlib.Omega.{arith}
-use borrow.Author.Tests.{eqb-true, ne_eqb, le-leb, lt-leb}
-use lib.Dec.{eqb}
-use lib.ListN.{length, get_or, drop, length-drop, drop_of_length-le}
-use Rattle.card_text.specs.Lines.{newline, ends, first_line}
+use borrow.Author.Tests.{eqb-true, ne_eqb, le-leb, leb-true}
+use lib.Dec.{eqb, leb}
+use lib.ListN.{length, get_or, take, drop}
+use lib.Seq.{take_all}
+use Rattle.std.specs.Prelude.{Option, Some, None}
+use Rattle.card_text.specs.Lines.{newline, ends, first_line, behind_line}
 use Rattle.card_text.specs.Values.{is_count, number_in}
-use Rattle.card_lines.specs.declared.counts.Counted.{Counted}
-use Rattle.card_lines.specs.declared.counts.Counted.TheVariants.{Number, Bad}
-use Rattle.card_lines.specs.Places.{counted_from}
-use Rattle.card_lines.proofs.Bytes.{second, third}
+use Rattle.card_lines.specs.Front.{count_first}
 
--- what is found where the text from a position on is t
-unfoldable found : ℕ → List ℕ → Counted
-found at t = cond (ends t && is_count (first_line t)) (Number (number_in (first_line t)) (at + length (first_line t) + 1)) Bad
+-- a digit is no newline
+plain : (b : ℕ) → 48 ≤ b → eqb b newline ≡ false
+plain b h = ne_eqb b newline (λ (e : b ≡ newline). omega arith)
 
--- there are no two bytes
-few : (at : ℕ) (t : List ℕ) → length t < 2 → Bad ≡ found at t
-unfolding found ends first_line is_count
-few at [] h = refl
-few at (b ∷ []) h = by (eqb b newline)
+-- what is read of a line v, which is ended or not, with the text u behind it
+abbrev read : Bool → List ℕ → List ℕ → Option (ℕ × List ℕ)
+read e v u = cond (e && is_count v) (Some (number_in v, u)) None
+
+all_of : (n : ℕ) (t : List ℕ) → n ≡ length t → take n t ≡ t
+all_of n t e = take_all n t (omega arith)
+
+-- one digit
+pub one_digit : (t : List ℕ) (n : ℕ) → n ≡ get_or t 0 0 - 48 → 2 ≤ length t → 48 ≤ get_or t 0 0 → get_or t 0 0 ≤ 57 → get_or t 1 0 ≡ 10
+    → Some (n, take (length t - 2) (drop 2 t)) ≡ count_first t
+unfolding count_first ends first_line behind_line is_count number_in
+one_digit [] n v l h k e = absurd (omega arith)
+one_digit (b ∷ []) n v l h k e = absurd (omega arith)
+one_digit (b ∷ c ∷ u) n v l h k e = rw (plain b h, e, le-leb 48 b h, le-leb b 57 k, v, all_of (length (b ∷ c ∷ u) - 2) u (omega arith))
+
+-- two digits
+pub two_digits : (t : List ℕ) (n m : ℕ) → n ≡ get_or t 0 0 - 48 → m ≡ get_or t 1 0 - 48 → 3 ≤ length t → 49 ≤ get_or t 0 0 → get_or t 0 0 ≤ 57 → 48 ≤ get_or t 1 0 → get_or t 1 0 ≤ 57 → get_or t 2 0 ≡ 10
+    → Some (n * 10 + m, take (length t - 3) (drop 3 t)) ≡ count_first t
+unfolding count_first ends first_line behind_line is_count number_in
+two_digits [] n m v w l h k i j e = absurd (omega arith)
+two_digits (b ∷ []) n m v w l h k i j e = absurd (omega arith)
+two_digits (b ∷ c ∷ []) n m v w l h k i j e = absurd (omega arith)
+two_digits (b ∷ c ∷ d ∷ u) n m v w l h k i j e = rw (plain b (omega arith), plain c i, e, le-leb 49 b h, le-leb b 57 k, le-leb 48 c i, le-leb c 57 j, v, w, all_of (length (b ∷ c ∷ d ∷ u) - 3) u (omega arith))
+
+-- the second byte is no newline, and these are not two digits and one
+no_second : (b c : ℕ) (u : List ℕ) → eqb b newline ≡ false → eqb c newline ≡ false
+    → (3 ≤ length (b ∷ c ∷ u) → 49 ≤ b → b ≤ 57 → 48 ≤ c → c ≤ 57 → get_or u 0 0 ≡ 10 → ⊥) → None ≡ count_first (b ∷ c ∷ u)
+unfolding count_first ends first_line behind_line is_count number_in
+no_second b c [] ey ez g = rw (ey, ez)
+no_second b c (d ∷ u) ey ez g = rw (ey, ez) (by (eqb d newline) (leb 49 b) (leb b 57) (leb 48 c) (leb c 57) (ends u) refl refl refl refl refl)
   where
-    by : (y : Bool) → Bad ≡ cond ((y || false) && is_count (cond y [] (b ∷ []))) (Number (number_in (cond y [] (b ∷ []))) (at + length (cond y [] (b ∷ [])) + 1)) Bad
+    by : (y p q r s e : Bool) → eqb d newline ≡ y → leb 49 b ≡ p → leb b 57 ≡ q → leb 48 c ≡ r → leb c 57 ≡ s
+        → None ≡ read (y || e) (b ∷ c ∷ cond y [] (d ∷ first_line u)) (cond y u (behind_line u))
+    by true true true true true e ed ep eq er es = absurd (g (omega arith) (leb-true 49 b ep) (leb-true b 57 eq) (leb-true 48 c er) (leb-true c 57 es) (eqb-true d newline ed))
+    by true true true true false e ed ep eq er es = rw (ep, eq, er, es)
+    by true true true false s e ed ep eq er es = rw (ep, eq, er)
+    by true true false r s e ed ep eq er es = rw (ep, eq)
+    by true false q r s e ed ep eq er es = rw ep
+    by false p q r s true ed ep eq er es = refl
+    by false p q r s false ed ep eq er es = refl
+
+-- neither of them
+pub neither : (t : List ℕ)
+    → (2 ≤ length t → 48 ≤ get_or t 0 0 → get_or t 0 0 ≤ 57 → get_or t 1 0 ≡ 10 → ⊥)
+    → (3 ≤ length t → 49 ≤ get_or t 0 0 → get_or t 0 0 ≤ 57 → 48 ≤ get_or t 1 0 → get_or t 1 0 ≤ 57 → get_or t 2 0 ≡ 10 → ⊥)
+    → None ≡ count_first t
+unfolding count_first ends first_line behind_line is_count number_in
+neither [] f g = refl
+neither (b ∷ []) f g = by (eqb b newline)
+  where
+    by : (y : Bool) → None ≡ read (y || false) (cond y [] (b ∷ [])) (cond y [] [])
     by true = refl
     by false = refl
-few at (b ∷ c ∷ t) h = absurd (not-suc-le-zero (le_of_suc-le-suc (le_of_suc-le-suc h)))
-
--- the second byte is a newline
-one : (at b : ℕ) (u : List ℕ) → cond (is_count (b ∷ [])) (Number (number_in (b ∷ [])) (at + 2)) Bad ≡ found at (b ∷ newline ∷ u)
-unfolding found ends first_line is_count
-one at b u = by (eqb b newline) refl
+neither (b ∷ c ∷ u) f g = second (eqb b newline) (eqb c newline) (leb 48 b) (leb b 57) refl refl refl refl
   where
-    by : (y : Bool) → eqb b newline ≡ y
-        → cond (is_count (b ∷ [])) (Number (number_in (b ∷ [])) (at + 2)) Bad
-        ≡ cond ((y || true) && is_count (cond y [] (b ∷ []))) (Number (number_in (cond y [] (b ∷ []))) (at + length (cond y [] (b ∷ [])) + 1)) Bad
-    by true q = rw (eqb-true b newline q)
-    by false q = ap (λ (p : ℕ). cond (is_count (b ∷ [])) (Number (number_in (b ∷ [])) p) Bad) (sum at)
-      where
-        sum : (p : ℕ) → p + 2 ≡ p + 1 + 1
-        sum p = omega arith
-
--- the third byte is, and the second is not
-two : (at b c : ℕ) (u : List ℕ) → (c ≡ newline → ⊥) → cond (is_count (b ∷ c ∷ [])) (Number (number_in (b ∷ c ∷ [])) (at + 3)) Bad ≡ found at (b ∷ c ∷ newline ∷ u)
-unfolding found ends first_line is_count
-two at b c u h = rw (ne_eqb c newline h) (by (eqb b newline) refl)
-  where
-    by : (y : Bool) → eqb b newline ≡ y
-        → cond (is_count (b ∷ c ∷ [])) (Number (number_in (b ∷ c ∷ [])) (at + 3)) Bad
-        ≡ cond ((y || true) && is_count (cond y [] (b ∷ c ∷ []))) (Number (number_in (cond y [] (b ∷ c ∷ []))) (at + length (cond y [] (b ∷ c ∷ [])) + 1)) Bad
-    by true q = rw (eqb-true b newline q)
-    by false q = ap (λ (p : ℕ). cond (is_count (b ∷ c ∷ [])) (Number (number_in (b ∷ c ∷ [])) p) Bad) (sum at)
-      where
-        sum : (p : ℕ) → p + 3 ≡ p + 2 + 1
-        sum p = omega arith
-
--- there are two bytes, and the second is no newline
-pair : (at b c : ℕ) → (c ≡ newline → ⊥) → Bad ≡ found at (b ∷ c ∷ [])
-unfolding found ends first_line is_count
-pair at b c h = rw (ne_eqb c newline h) (by (eqb b newline))
-  where
-    by : (y : Bool) → Bad ≡ cond ((y || false) && is_count (cond y [] (b ∷ c ∷ []))) (Number (number_in (cond y [] (b ∷ c ∷ []))) (at + length (cond y [] (b ∷ c ∷ [])) + 1)) Bad
-    by true = refl
-    by false = refl
-
--- neither the second byte is one nor the third
-more : (at b c e : ℕ) (u : List ℕ) → (c ≡ newline → ⊥) → (e ≡ newline → ⊥) → Bad ≡ found at (b ∷ c ∷ e ∷ u)
-unfolding found ends first_line is_count
-more at b c e u h k = rw (ne_eqb c newline h, ne_eqb e newline k) (by (eqb b newline) (ends u))
-  where
-    by : (y z : Bool)
-        → Bad ≡ cond ((y || z) && is_count (cond y [] (b ∷ c ∷ e ∷ first_line u))) (Number (number_in (cond y [] (b ∷ c ∷ e ∷ first_line u))) (at + length (cond y [] (b ∷ c ∷ e ∷ first_line u)) + 1)) Bad
-    by true z = refl
-    by false true = refl
-    by false false = refl
-
--- ---- the bytes by themselves
-
-module _ (b next : ℕ) where
-  pub digit : 48 ≤ b → b ≤ 57 → Number (b - 48) next ≡ cond (is_count (b ∷ [])) (Number (number_in (b ∷ [])) next) Bad
-  unfolding is_count number_in
-  digit l h = rw (le-leb 48 b l, le-leb b 57 h)
-
-  pub below : b < 48 → Bad ≡ cond (is_count (b ∷ [])) (Number (number_in (b ∷ [])) next) Bad
-  unfolding is_count
-  below h = rw (lt-leb 48 b h)
-
-  pub above : 57 < b → Bad ≡ cond (is_count (b ∷ [])) (Number (number_in (b ∷ [])) next) Bad
-  unfolding is_count
-  above h = rw (le-leb 48 b (omega arith), lt-leb b 57 h)
-
-module _ (b c next : ℕ) where
-  pub first_below : b < 49 → Bad ≡ cond (is_count (b ∷ c ∷ [])) (Number (number_in (b ∷ c ∷ [])) next) Bad
-  unfolding is_count
-  first_below h = rw (lt-leb 49 b h)
-
-  pub first_above : 57 < b → Bad ≡ cond (is_count (b ∷ c ∷ [])) (Number (number_in (b ∷ c ∷ [])) next) Bad
-  unfolding is_count
-  first_above h = rw (le-leb 49 b (omega arith), lt-leb b 57 h)
-
-  module _ (l : 49 ≤ b) (h : b ≤ 57) where
-    pub digits : 48 ≤ c → c ≤ 57 → Number ((b - 48) * 10 + (c - 48)) next ≡ cond (is_count (b ∷ c ∷ [])) (Number (number_in (b ∷ c ∷ [])) next) Bad
-    unfolding is_count number_in
-    digits l' h' = rw (le-leb 49 b l, le-leb b 57 h, le-leb 48 c l', le-leb c 57 h')
-
-    pub second_below : c < 48 → Bad ≡ cond (is_count (b ∷ c ∷ [])) (Number (number_in (b ∷ c ∷ [])) next) Bad
-    unfolding is_count
-    second_below k = rw (le-leb 49 b l, le-leb b 57 h, lt-leb 48 c k)
-
-    pub second_above : 57 < c → Bad ≡ cond (is_count (b ∷ c ∷ [])) (Number (number_in (b ∷ c ∷ [])) next) Bad
-    unfolding is_count
-    second_above k = rw (le-leb 49 b l, le-leb b 57 h, le-leb 48 c (omega arith), lt-leb c 57 k)
-
--- ---- a card from a position on
-
-module _ (s : List ℕ) (at : ℕ) where
-  pub no_bytes : length s - at < 2 → Bad ≡ counted_from s at
-  unfolding found counted_from
-  no_bytes h = few at (drop at s) (rw (length-drop at s) h)
-
-  module _ (room : at + 2 ≤ length s) where
-    pub after_one : get_or s (at + 1) 0 ≡ newline → cond (is_count (get_or s at 0 ∷ [])) (Number (number_in (get_or s at 0 ∷ [])) (at + 2)) Bad ≡ counted_from s at
-    unfolding found counted_from
-    after_one e = one at (get_or s at 0) (drop (at + 2) s) ∙ ap (found at) (sym (second s at (omega arith) ∙ ap (λ (x : ℕ). get_or s at 0 ∷ x ∷ drop (at + 2) s) e))
-
-    pub no_third : (get_or s (at + 1) 0 ≡ newline → ⊥) → length s - at < 3 → Bad ≡ counted_from s at
-    unfolding found counted_from
-    no_third h k =
-        pair at (get_or s at 0) (get_or s (at + 1) 0) h
-        ∙ ap (found at) (sym (second s at (omega arith) ∙ ap (λ (x : List ℕ). get_or s at 0 ∷ get_or s (at + 1) 0 ∷ x) (drop_of_length-le s {i = at + 2} (omega arith))))
-
-  module _ (room : at + 3 ≤ length s) (h : get_or s (at + 1) 0 ≡ newline → ⊥) where
-    pub after_two : get_or s (at + 2) 0 ≡ newline → cond (is_count (get_or s at 0 ∷ get_or s (at + 1) 0 ∷ [])) (Number (number_in (get_or s at 0 ∷ get_or s (at + 1) 0 ∷ [])) (at + 3)) Bad ≡ counted_from s at
-    unfolding found counted_from
-    after_two e =
-        two at (get_or s at 0) (get_or s (at + 1) 0) (drop (at + 3) s) h
-        ∙ ap (found at) (sym (third s at (omega arith) ∙ ap (λ (x : ℕ). get_or s at 0 ∷ get_or s (at + 1) 0 ∷ x ∷ drop (at + 3) s) e))
-
-    pub too_long : (get_or s (at + 2) 0 ≡ newline → ⊥) → Bad ≡ counted_from s at
-    unfolding found counted_from
-    too_long k = more at (get_or s at 0) (get_or s (at + 1) 0) (get_or s (at + 2) 0) (drop (at + 3) s) h k ∙ ap (found at) (sym (third s at (omega arith)))
+    second : (y z p q : Bool) → eqb b newline ≡ y → eqb c newline ≡ z → leb 48 b ≡ p → leb b 57 ≡ q → None ≡ count_first (b ∷ c ∷ u)
+    second true z p q ey ez ep eq = rw ey
+    second false true true true ey ez ep eq = absurd (f (omega arith) (leb-true 48 b ep) (leb-true b 57 eq) (eqb-true c newline ez))
+    second false true true false ey ez ep eq = rw (ey, ez, ep, eq)
+    second false true false q ey ez ep eq = rw (ey, ez, ep)
+    second false false p q ey ez ep eq = no_second b c u ey ez g

@@ -1,27 +1,21 @@
--- Digits at a position, one more at a time: whether all of them are digits, and the number that they spell. Assumes nothing.
+-- Digits, one more at a time: whether all of them are digits, and the number that they spell. Assumes nothing.
 use mathlib.Core.Path.{◌≡◌, refl, sym, ap, ◌∙◌, subst}
 use mathlib.Core.Bool.{Bool, true, false, ◌&&◌, and-eq-true_iff, and-true}
 use mathlib.Core.List.{List, [], ◌∷◌, ◌++◌}
-use Prim.Native.Nat.{ℕ, zero, suc, ◌+◌, ◌-◌, ◌*◌, ◌/◌, ◌^◌, ◌≤◌, ◌<◌}
+use Prim.Native.Nat.{ℕ, zero, suc, ◌+◌, ◌*◌, ◌/◌, ◌^◌, ◌≤◌, ◌<◌}
 use native.Mathlib.Nat.{not-suc-le-zero, le_of_suc-le-suc, le_trans, pow-suc, pow-le-pow_right}
 use native.Mathlib.Numerals.{add-one}
 use native.Mathlib.Omega.{arith}
 use borrow.Author.Tests.{eq-eqb, ne_eqb, eqb-true, eqb-false, ltb-true, ltb-false}
 use lib.Dec.{eqb, ltb, lit<}
-use lib.ListN.{length, get_or, take, drop, length-drop, get_or-eq_default}
-use lib.Seq.{take-suc, get_or-take, get_or-drop, length-take-le}
+use lib.ListN.{length, get_or, take, drop, get_or-eq_default}
+use lib.Seq.{take_all}
+use Rattle.std.specs.Prelude.{Some, None}
+use Rattle.std.proofs.lemmas.List.{take_more}
 use Rattle.lines.specs.Hex.{digit_of}
 use Rattle.lines.proofs.Digits.{small}
 use Rattle.card_text.specs.Values.{are_digits, spelt_from}
-use Rattle.card_lines.specs.Places.{field}
-
--- one byte more
-module _ (s : List ℕ) (p i : ℕ) (h : p + i < length s) where
-  longer : take (i + 1) (drop p s) ≡ take i (drop p s) ++ (get_or s (p + i) 0 ∷ [])
-  longer =
-      rw (add-one i)
-      (take-suc (drop p s) i 0 (omega (arith, length-drop p s))
-      ∙ ap (λ (b : ℕ). take i (drop p s) ++ (b ∷ [])) (get_or-drop p s i 0))
+use Rattle.card_lines.specs.Front.{field, field_first}
 
 -- ---- whether they are digits
 
@@ -43,42 +37,57 @@ none_more x d = at (eqb x 0) (ltb d 16) refl refl
     at true false e h = ne_eqb (x + d / 16) 0 (λ (g : x + d / 16 ≡ 0). let l = ltb-false d 16 h in omega arith)
     at false z e h = ne_eqb (x + d / 16) 0 (λ (g : x + d / 16 ≡ 0). eqb-false x 0 e (omega arith))
 
-pub digits_more : (s : List ℕ) (p i x r : ℕ) → p + i < length s → r ≡ digit_of (get_or s (p + i) 0) / 16
-    → eqb x 0 ≡ are_digits (take i (drop p s)) → eqb (x + r) 0 ≡ are_digits (take (i + 1) (drop p s))
-digits_more s p i x r h is e =
+pub digits_more : (t : List ℕ) (i x r : ℕ) → i < length t → r ≡ digit_of (get_or t i 0) / 16 → eqb x 0 ≡ are_digits (take i t) → eqb (x + r) 0 ≡ are_digits (take (i + 1) t)
+digits_more t i x r h is e =
     rw is
-    (none_more x (digit_of (get_or s (p + i) 0))
-    ∙ rw e (sym (ap are_digits (longer s p i h) ∙ all_but_last (take i (drop p s)) (get_or s (p + i) 0))))
+    (none_more x (digit_of (get_or t i 0))
+    ∙ rw e (sym (ap are_digits (take_more t i 0 h) ∙ all_but_last (take i t) (get_or t i 0))))
+
+-- all of them are looked at
+pub all_looked : (t : List ℕ) (i x : ℕ) → length t ≤ i → eqb x 0 ≡ are_digits (take i t) → eqb x 0 ≡ are_digits t
+all_looked t i x h e = e ∙ ap are_digits (take_all i t h)
 
 -- a byte adds at most 1
 pub at_most_one : (b r : ℕ) → r ≡ digit_of b / 16 → r ≤ 1
 at_most_one b r e = omega (arith, small b)
 
-module _ (d : ℕ) (s : List ℕ) (p end : ℕ) where
+module _ (d end : ℕ) (t : List ℕ) where
+  -- the test of a field that fails
+  missing : field d end t ≡ false → None ≡ field_first d end t
+  unfolding field_first
+  missing h = rw h
+
   -- there is no byte behind d
-  pub no_field : length s - p < suc d → 1 ≤ end → false ≡ field d end (drop p s)
+  pub too_short : length t < suc d → 1 ≤ end → None ≡ field_first d end t
   unfolding field
-  no_field h some =
-      rw (get_or-eq_default (drop p s) 0 {n = d} (omega (arith, length-drop p s)), ne_eqb 0 end (λ (e : 0 ≡ end). omega arith))
-      (sym (nothing (are_digits (take d (drop p s)))))
+  too_short h some =
+      missing
+      (rw (get_or-eq_default t 0 {n = d} (omega arith), ne_eqb 0 end (λ (e : 0 ≡ end). omega arith))
+      (nothing (are_digits (take d t))))
     where
       nothing : (y : Bool) → (y && false) ≡ false
       nothing true = refl
       nothing false = refl
 
-  module _ (i x : ℕ) (all : i ≡ d) (e : eqb x 0 ≡ are_digits (take i (drop p s))) where
-    whole : eqb x 0 ≡ are_digits (take d (drop p s))
-    whole = e ∙ ap (λ (j : ℕ). are_digits (take j (drop p s))) all
-
+  module _ (x : ℕ) (e : eqb x 0 ≡ are_digits (take d t)) where
     -- d digits, and the byte behind them
-    pub by_byte : x ≡ 0 → eqb (get_or s (p + d) 0) end ≡ field d end (drop p s)
-    unfolding field
-    by_byte z = rw (sym whole, eq-eqb x 0 z) (ap (λ (b : ℕ). eqb b end) (sym (get_or-drop p s d 0)))
+    pub a_field : (u : List ℕ) → x ≡ 0 → get_or t d 0 ≡ end → u ≡ drop (suc d) t → Some u ≡ field_first d end t
+    unfolding field_first field
+    a_field u z b r = rw (sym e, eq-eqb x 0 z, eq-eqb (get_or t d 0) end b, r)
 
     -- some byte is no digit
-    pub by_other : (x ≡ 0 → ⊥) → eqb x 0 ≡ field d end (drop p s)
+    pub no_digit : (x ≡ 0 → ⊥) → None ≡ field_first d end t
     unfolding field
-    by_other z = rw (sym whole, ne_eqb x 0 z)
+    no_digit z = missing (rw (sym e, ne_eqb x 0 z))
+
+    -- another byte stands behind them
+    pub another_end : (get_or t d 0 ≡ end → ⊥) → None ≡ field_first d end t
+    unfolding field
+    another_end b = missing (rw (ne_eqb (get_or t d 0) end b) (nothing (are_digits (take d t))))
+      where
+        nothing : (y : Bool) → (y && false) ≡ false
+        nothing true = refl
+        nothing false = refl
 
 -- ---- the number that they spell
 
@@ -87,7 +96,7 @@ unfolding spelt_from
 spelt_more n [] b = refl
 spelt_more n (c ∷ t) b = spelt_more (n * 16 + digit_of c) t b
 
-each : (t : List ℕ) (i : ℕ) → are_digits t ≡ true → i < length t → digit_of (get_or t i 0) < 16
+pub each : (t : List ℕ) (i : ℕ) → are_digits t ≡ true → i < length t → digit_of (get_or t i 0) < 16
 unfolding are_digits
 each [] i e h = absurd (not-suc-le-zero h)
 each (b ∷ t) zero e h = ltb-true (digit_of b) 16 ((and-eq-true_iff (ltb (digit_of b) 16) (are_digits t)).0 e).0
@@ -104,22 +113,12 @@ below d n i h k = le_trans k (pow-le-pow_right {n = 16} (lit< tt) {i = i} {j = d
 pub entry_room : (d n i : ℕ) → i < d → n < 16 ^ i → n * 16 < 16 ^ d
 entry_room d n i h k = below d (n * 16) (i + 1) (omega arith) (omega (arith, grows n 0 i k (lit< tt)))
 
-module _ (w : ℕ) (s : List ℕ) (p : ℕ) (room : p + w ≤ length s) (good : are_digits (take w (drop p s)) ≡ true) (i : ℕ) (h : i < w) where
-  pub a_digit : digit_of (get_or s (p + i) 0) < 16
-  a_digit =
-      subst (λ (b : ℕ). digit_of b < 16) (get_or-take w (drop p s) i 0 h ∙ get_or-drop p s i 0)
-      (each (take w (drop p s)) i good (rw (length-take-le w (drop p s) (omega (arith, length-drop p s))) h))
+module _ (t : List ℕ) (good : are_digits t ≡ true) (i : ℕ) (h : i < length t) (n d : ℕ) (is : d ≡ digit_of (get_or t i 0)) (few : n < 16 ^ i) where
+  pub entry_small : n * 16 + d < 16 ^ (i + 1)
+  entry_small = grows n d i few (subst (λ (x : ℕ). x < 16) (sym is) (each t i good h))
 
-  module _ (n d : ℕ) (is : d ≡ digit_of (get_or s (p + i) 0)) (few : n < 16 ^ i) where
-    pub entry_small : n * 16 + d < 16 ^ (i + 1)
-    entry_small = grows n d i few (subst (λ (x : ℕ). x < 16) (sym is) a_digit)
+  pub entry_fits : (w : ℕ) → length t ≡ w → n * 16 + d < 16 ^ w
+  entry_fits w l = below w (n * 16 + d) (i + 1) (omega arith) entry_small
 
-    pub entry_fits : n * 16 + d < 16 ^ w
-    entry_fits = below w (n * 16 + d) (i + 1) (omega arith) entry_small
-
-    pub entry_more : n ≡ spelt_from 0 (take i (drop p s)) → n * 16 + d ≡ spelt_from 0 (take (i + 1) (drop p s))
-    entry_more e = rw (e, is) (sym (ap (spelt_from 0) (longer s p i (omega arith)) ∙ spelt_more 0 (take i (drop p s)) (get_or s (p + i) 0)))
-
--- all of them are read
-pub entry_whole : (d : ℕ) (s : List ℕ) (p i n : ℕ) → i ≡ d → n ≡ spelt_from 0 (take i (drop p s)) → n ≡ spelt_from 0 (take d (drop p s))
-entry_whole d s p i n all e = e ∙ ap (λ (j : ℕ). spelt_from 0 (take j (drop p s))) all
+  pub entry_more : n ≡ spelt_from 0 (take i t) → n * 16 + d ≡ spelt_from 0 (take (i + 1) t)
+  entry_more e = rw (e, is) (sym (ap (spelt_from 0) (take_more t i 0 h) ∙ spelt_more 0 (take i t) (get_or t i 0)))

@@ -3,24 +3,19 @@
 use mathlib.Core.Path.{◌≡◌, refl, sym, ap, ◌∙◌, subst}
 use mathlib.Core.Bool.{Bool, true, false, ◌&&◌, cond, and-eq-true_iff, true≢false}
 use mathlib.Core.List.{List, ◌∷◌, ◌++◌}
-use Prim.Native.Nat.{ℕ, zero, suc, ◌+◌, ◌-◌, ◌*◌, ◌≤◌, ◌<◌}
+use Prim.Native.Nat.{ℕ, zero, suc, ◌+◌, ◌*◌, ◌≤◌, ◌<◌}
 use native.Mathlib.Nat.{not-suc-le-zero, le_of_suc-le-suc, zero-mul, suc-mul, add_comm}
 use native.Mathlib.Omega.{arith}
 use borrow.Author.Tests.{eqb-true, eq-eqb, lt-ltb, ltb-true}
 use lib.Dec.{eqb, ltb}
 use lib.ListN.{length, get_or, take, drop, length-append, length-drop, get_or-append}
 use lib.Seq.{take_at, take-append-le, drop-append-le, get_or_at, split_at, length-take-le, drop-drop}
+use Rattle.std.specs.Prelude.{Some, None}
 use Rattle.card_text.specs.Lines.{newline, ends, first_line, behind_line}
 use Rattle.card_text.specs.Values.{comma, are_digits, spelt_from, are_entries, entries_in}
-use Rattle.card_text.proofs.Lines.{cut, ends-behind, first-behind, ends_at, first_at}
+use Rattle.card_text.proofs.Lines.{cut, ends-behind, first-behind, behind-behind, ends_at, first_at, behind_at}
 use Rattle.card_text.proofs.Entries.{digits_plain, entry_is, entry_parts, more_are, held, more_comma, more_room, more_first, more_rest}
-use Rattle.card_lines.specs.declared.entries.Found.{Found}
-use Rattle.card_lines.specs.declared.entries.Found.TheVariants.{Next, Bad}
-use Rattle.card_lines.specs.Places.{found_from, field, fields}
-
--- what is found of k entries where the text from a position on is t
-unfoldable found : ℕ → ℕ → ℕ → List ℕ → Found
-found d k at t = cond (ends t && are_entries d k (first_line t)) (Next (at + length (first_line t) + 1)) Bad
+use Rattle.card_lines.specs.Front.{entries_first, field, field_first, fields}
 
 -- ---- a field that is there
 
@@ -42,30 +37,20 @@ module _ (d b : ℕ) (t : List ℕ) (h : field d (suc b) t ≡ true) where
   apart = split_at t d 0 room ∙ ap (λ (c : ℕ). take d t ++ (c ∷ drop (suc d) t)) behind
 
 -- d digits, a comma, and then u
-more : (d k at : ℕ) (e u : List ℕ) → length e ≡ d → are_digits e ≡ true → found d (suc (suc k)) at (e ++ (comma ∷ u)) ≡ found d (suc k) (at + suc d) u
-unfolding found ends first_line
-more d k at e u l h =
+more : (d k : ℕ) (e u : List ℕ) → length e ≡ d → are_digits e ≡ true → entries_first d (suc (suc k)) (e ++ (comma ∷ u)) ≡ entries_first d (suc k) u
+unfolding entries_first ends first_line behind_line
+more d k e u l h =
     rw (
       ends-behind e (comma ∷ u) (digits_plain e h),
       first-behind e (comma ∷ u) (digits_plain e h),
+      behind-behind e (comma ∷ u) (digits_plain e h),
       more_are d k e (first_line u) l h,
-      length-append e (comma ∷ first_line u),
-      l,
     )
-    (ap (λ (p : ℕ). cond (ends u && are_entries d (suc k) (first_line u)) (Next p) Bad) (sum at d (length (first_line u))))
-  where
-    sum : (p d l : ℕ) → p + (d + suc l) + 1 ≡ p + suc d + l + 1
-    sum p d l = omega arith
 
 -- d digits and a newline
-last : (d at : ℕ) (e u : List ℕ) → length e ≡ d → are_digits e ≡ true → found d 1 at (e ++ (newline ∷ u)) ≡ Next (at + suc d)
-unfolding found are_entries
-last d at e u l h =
-    rw (ends_at e u (digits_plain e h), first_at e u (digits_plain e h), entry_is d e l h, l)
-    (ap (λ (p : ℕ). Next p) (sum at d))
-  where
-    sum : (p d : ℕ) → p + d + 1 ≡ p + suc d
-    sum p d = omega arith
+last : (d : ℕ) (e u : List ℕ) → length e ≡ d → are_digits e ≡ true → entries_first d 1 (e ++ (newline ∷ u)) ≡ Some u
+unfolding entries_first are_entries
+last d e u l h = rw (ends_at e u (digits_plain e h), first_at e u (digits_plain e h), behind_at e u (digits_plain e h), entry_is d e l h)
 
 -- ---- a line that is right has its first field
 
@@ -88,50 +73,51 @@ right_last d t e h =
     (rw (take_at (first_line t) (newline ∷ behind_line t) d p.0, p.1, get_or_at (first_line t) newline (behind_line t) 0 d p.0))
 
 -- so one whose first field is not there is wrong
-wrong : (d k at b : ℕ) (t : List ℕ) → (ends t ≡ true → are_entries d k (first_line t) ≡ true → field d b t ≡ true) → field d b t ≡ false → Bad ≡ found d k at t
-unfolding found
-wrong d k at b t h missing = by (ends t) (are_entries d k (first_line t)) refl refl
+wrong : (d k b : ℕ) (t : List ℕ) → (ends t ≡ true → are_entries d k (first_line t) ≡ true → field d b t ≡ true) → field d b t ≡ false → None ≡ entries_first d k t
+unfolding entries_first
+wrong d k b t h missing = by (ends t) (are_entries d k (first_line t)) refl refl
   where
-    by : (y z : Bool) → ends t ≡ y → are_entries d k (first_line t) ≡ z → Bad ≡ cond (y && z) (Next (at + length (first_line t) + 1)) Bad
+    by : (y z : Bool) → ends t ≡ y → are_entries d k (first_line t) ≡ z → None ≡ cond (y && z) (Some (behind_line t)) None
     by true true e g = absurd (true≢false (sym (h e g) ∙ missing))
     by true false e g = refl
     by false z e g = refl
 
--- ---- the code's turns, with k entries still to be read from a position on
+-- ---- the code's turns: a field, and what is still to be read behind it
 
-one_less : (k : ℕ) → suc k - 1 ≡ k
-one_less k = omega arith
+-- what a field's test finds
+is_field : (d b : ℕ) (t u : List ℕ) → Some u ≡ field_first d b t → (field d b t ≡ true) × (u ≡ drop (suc d) t)
+unfolding field_first
+is_field d b t u e = by (field d b t) e
+  where
+    by : (y : Bool) → Some u ≡ cond y (Some (drop (suc d) t)) None → (y ≡ true) × (u ≡ drop (suc d) t)
+    by true e = (refl, cc)
+    by false e = absurd (cc)
 
-pub turn : (d k : ℕ) (s : List ℕ) (p : ℕ) → 1 < k → field d comma (drop p s) ≡ true → found_from d (k - 1) s (p + suc d) ≡ found_from d k s p
-unfolding found found_from
-turn d zero s p g h = absurd (not-suc-le-zero g)
-turn d (suc zero) s p g h = absurd (not-suc-le-zero (le_of_suc-le-suc g))
-turn d (suc (suc k)) s p g h =
-    let t = drop p s in
-    rw (one_less (suc k))
-    (ap (found d (suc k) (p + suc d)) (sym (drop-drop (suc d) p s))
-    ∙ sym (ap (found d (suc (suc k)) p) (apart d 43 t h) ∙ more d k p (take d t) (drop (suc d) t) (whole d 43 t h) (tests d 43 t h).0))
+no_field : (d b : ℕ) (t : List ℕ) → None ≡ field_first d b t → field d b t ≡ false
+unfolding field_first
+no_field d b t e = by (field d b t) e
+  where
+    by : (y : Bool) → None ≡ cond y (Some (drop (suc d) t)) None → y ≡ false
+    by true e = absurd (cc)
+    by false e = refl
 
-pub no_turn : (d k : ℕ) (s : List ℕ) (p : ℕ) → 1 < k → field d comma (drop p s) ≡ false → Bad ≡ found_from d k s p
-unfolding found found_from
-no_turn d zero s p g h = absurd (not-suc-le-zero g)
-no_turn d (suc zero) s p g h = absurd (not-suc-le-zero (le_of_suc-le-suc g))
-no_turn d (suc (suc k)) s p g h = wrong d (suc (suc k)) p comma (drop p s) (right_more d k (drop p s)) h
+module _ (d k : ℕ) (t : List ℕ) where
+  pub turn : (u : List ℕ) → Some u ≡ field_first d comma t → entries_first d (suc k) u ≡ entries_first d (suc (suc k)) t
+  turn u e =
+      let f = is_field d comma t u e in
+      rw f.1
+      (sym (ap (entries_first d (suc (suc k))) (apart d 43 t f.0) ∙ more d k (take d t) (drop (suc d) t) (whole d 43 t f.0) (tests d 43 t f.0).0))
 
-pub ended : (d k : ℕ) (s : List ℕ) (p : ℕ) → k ≡ 1 → field d newline (drop p s) ≡ true → Next (p + suc d) ≡ found_from d k s p
-unfolding found found_from
-ended d k s p e h =
-    let t = drop p s in
-    rw e
-    (sym (ap (found d 1 p) (apart d 9 t h) ∙ last d p (take d t) (drop (suc d) t) (whole d 9 t h) (tests d 9 t h).0))
+  pub no_turn : None ≡ field_first d comma t → None ≡ entries_first d (suc (suc k)) t
+  no_turn e = wrong d (suc (suc k)) comma t (right_more d k t) (no_field d comma t e)
 
-pub not_ended : (d k : ℕ) (s : List ℕ) (p : ℕ) → k ≡ 1 → field d newline (drop p s) ≡ false → Bad ≡ found_from d k s p
-unfolding found found_from
-not_ended d k s p e h = rw e (wrong d 1 p newline (drop p s) (right_last d (drop p s)) h)
-
--- a field that is there lies within the card
-pub field_fits : (d b : ℕ) (t : List ℕ) → field d (suc b) t ≡ true → suc d ≤ length t
-field_fits = room
+pub ended : (d : ℕ) (t : List ℕ) → field_first d newline t ≡ entries_first d 1 t
+unfolding field_first
+ended d t = by (field d newline t) refl
+  where
+    by : (y : Bool) → field d newline t ≡ y → cond y (Some (drop (suc d) t)) None ≡ entries_first d 1 t
+    by true h = sym (ap (entries_first d 1) (apart d 9 t h) ∙ last d (take d t) (drop (suc d) t) (whole d 9 t h) (tests d 9 t h).0)
+    by false h = wrong d 1 newline t (right_last d t) h
 
 -- ---- entries that are read: where each of them stands, and what it says
 

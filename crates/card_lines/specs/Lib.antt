@@ -1,2 +1,2 @@
--- The definitions that the contracts cite: what stands at a position of a card.
-pub mod Places
+-- The definitions that the contracts cite: what a text begins with.
+pub mod Front

@@ -1,82 +1,28 @@
 // Lines that hold a count.
-ghost use Rattle.std.specs.Prelude.{◌≡◌, cond, false, [], ◌∷◌, ◌≤◌, length};
+ghost use Rattle.std.specs.Prelude.{◌≡◌, false, option_map};
 ghost use Rattle.card_text.specs.Lines.{ends};
-ghost use Rattle.card_text.specs.Values.{is_count, number_in};
-ghost use Rattle.card_lines.specs.Places.{counted_at, counted_from};
+ghost use Rattle.card_lines.specs.Front.{count_first, counted, with_rest};
 
-use crate::keys::begins_at;
-
-// What reading a count finds.
-#[derive(Clone, Copy)]
-pub enum Counted {
-    // The number, and the position behind the line.
-    Number(usize, usize),
-    // The line is not as it must be.
-    Bad,
-}
-
-// The count in the line that begins at the position: the key, one decimal digit or two of which the
-// first is not 0, and a newline.
-pub fn count_line(s: &[u8], at: usize, key: &[u8]) -> Counted
-    requires { (at ≤ length s.now) × (ends key.now ≡ false) }
-    ensures { result ≡ counted_at key.now s.now at }
+// The count in the first line of the text, and the text behind the line: the key, one decimal digit or
+// two of which the first is not 0, and a newline. None of another line.
+pub fn count_line<'a>(text: &'a [u8], key: &[u8]) -> Option<(usize, &'a [u8])>
+    requires { ends key.now ≡ false }
+    ensures { with_rest result ≡ counted key.now text.now }
 {
-    if begins_at(s, at, key) {
-        count_at(s, at + key.len())
-    } else {
-        Counted::Bad
-    }
+    count_here(text.strip_prefix(key)?)
 }
 
 // The same from behind the key on.
-fn count_at(s: &[u8], at: usize) -> Counted
-    requires { at ≤ length s.now }
-    ensures { result ≡ counted_from s.now at }
+fn count_here(text: &[u8]) -> Option<(usize, &[u8])>
+    ensures { with_rest result ≡ count_first text.now }
 {
-    let room = s.len() - at;
-    if room < 2 {
-        return Counted::Bad;
-    }
-    let b = s[at];
-    let c = s[at + 1];
-    if c == b'\n' {
-        return one_digit(b, at + 2);
-    }
-    if room < 3 {
-        return Counted::Bad;
-    }
-    if s[at + 2] != b'\n' {
-        return Counted::Bad;
-    }
-    two_digits(b, c, at + 3)
-}
-
-// The number that one byte says, where it is a count.
-fn one_digit(b: u8, next: usize) -> Counted
-    ensures { result ≡ cond (is_count (b ∷ [])) (Counted.Number (number_in (b ∷ [])) next) Counted.Bad }
-{
-    match b {
-        b'0'..=b'9' => Counted::Number((b - b'0') as usize, next),
-        _ => Counted::Bad,
-    }
-}
-
-// The number that two bytes say, where they are a count.
-fn two_digits(b: u8, c: u8, next: usize) -> Counted
-    ensures { result ≡ cond (is_count (b ∷ c ∷ [])) (Counted.Number (number_in (b ∷ c ∷ [])) next) Counted.Bad }
-{
-    if b < b'1' {
-        return Counted::Bad;
-    }
-    if b'9' < b {
-        return Counted::Bad;
-    }
-    match c {
-        b'0'..=b'9' => {
-            let tens = (b - b'0') as usize;
-            let ones = (c - b'0') as usize;
-            Counted::Number(tens * 10 + ones, next)
+    match text {
+        [b @ b'0'..=b'9', b'\n', rest @ ..] => Some((usize::from(*b - b'0'), rest)),
+        [b @ b'1'..=b'9', c @ b'0'..=b'9', b'\n', rest @ ..] => {
+            let tens = usize::from(*b - b'0');
+            let ones = usize::from(*c - b'0');
+            Some((tens * 10 + ones, rest))
         }
-        _ => Counted::Bad,
+        _ => None,
     }
 }

@@ -1,23 +1,25 @@
 // Eight digits and the byte behind them.
-ghost use Rattle.std.specs.Prelude.{◌≡◌, ◌≤◌, length, drop};
-ghost use Rattle.card_lines.specs.Places.{field};
+ghost use Rattle.std.specs.Prelude.{◌≡◌, ◌≤◌, option_copied};
+ghost use Rattle.card_lines.specs.Front.{field_first};
 
 use crate::digits::other;
 
-// Whether eight digits stand at the position, and the byte `end` behind them. Every digit is looked at,
+// The text behind eight digits and the byte `end`, where it begins with these. Every digit is looked at,
 // with no branch on the way.
-pub fn field_at(s: &[u8], p: usize, end: u8) -> bool
-    requires { (p ≤ length s.now) × (1 ≤ end) }
-    ensures { result ≡ field 8 end (drop p s.now) }
+pub fn behind_field(text: &[u8], end: u8) -> Option<&[u8]>
+    requires { 1 ≤ end }
+    ensures { option_copied result ≡ field_first 8 end text.now }
 {
-    if s.len() - p < 9 {
-        return false;
+    if text.len() < 9 {
+        return None;
     }
     let mut others: u32 = 0;
-    let mut i: usize = 0;
-    while i < 8 {
-        others += other(s[p + i]);
-        i += 1;
+    for b in &text[..8] {
+        others += other(*b);
     }
-    others == 0 && s[p + 8] == end
+    if others == 0 && text[8] == end {
+        Some(&text[9..])
+    } else {
+        None
+    }
 }

@@ -1,50 +1,27 @@
 // Lines that hold the entries of a matrix.
-ghost use Rattle.std.specs.Prelude.{◌≡◌, false, ◌≤◌, length};
+ghost use Rattle.std.specs.Prelude.{◌≡◌, false, ◌≤◌, option_copied};
 ghost use Rattle.card_text.specs.Lines.{ends};
-ghost use Rattle.card_lines.specs.Places.{found_at, found_from};
+ghost use Rattle.card_lines.specs.Front.{entries_first, found};
 
-use crate::eight::field_at;
-use crate::keys::begins_at;
+use crate::eight::behind_field;
 
-// What judging a line of entries finds.
-#[derive(Clone, Copy)]
-pub enum Found {
-    // The line is right: the position behind it.
-    Next(usize),
-    // The line is not as it must be.
-    Bad,
-}
-
-// Judges the line that begins at the position: the key, k entries of eight digits with commas between,
-// and a newline.
-pub fn entries_line(s: &[u8], at: usize, key: &[u8], k: usize) -> Found
-    requires { (at ≤ length s.now) × (ends key.now ≡ false) × (1 ≤ k) }
-    ensures { result ≡ found_at 8 key.now k s.now at }
+// The text behind its first line, where that is right: the key, k entries of eight digits with commas
+// between, and a newline.
+pub fn entries_line<'a>(text: &'a [u8], key: &[u8], k: usize) -> Option<&'a [u8]>
+    requires { (ends key.now ≡ false) × (1 ≤ k) }
+    ensures { option_copied result ≡ found 8 key.now k text.now }
 {
-    if begins_at(s, at, key) {
-        entries_at(s, at + key.len(), k)
-    } else {
-        Found::Bad
-    }
+    entries_here(text.strip_prefix(key)?, k)
 }
 
 // The same from behind the key on.
-fn entries_at(s: &[u8], at: usize, k: usize) -> Found
-    requires { (at ≤ length s.now) × (1 ≤ k) }
-    ensures { result ≡ found_from 8 k s.now at }
+fn entries_here(text: &[u8], k: usize) -> Option<&[u8]>
+    requires { 1 ≤ k }
+    ensures { option_copied result ≡ entries_first 8 k text.now }
 {
-    let mut p = at;
-    let mut left = k;
-    while 1 < left {
-        if !field_at(s, p, b',') {
-            return Found::Bad;
-        }
-        p += 9;
-        left -= 1;
+    let mut rest = text;
+    for _ in 1..k {
+        rest = behind_field(rest, b',')?;
     }
-    if field_at(s, p, b'\n') {
-        Found::Next(p + 9)
-    } else {
-        Found::Bad
-    }
+    behind_field(rest, b'\n')
 }

@@ -6,4 +6,4 @@ mod compare;
 mod line;
 
 pub use compare::SIZES;
-pub use line::{Count, Found, replay};
+pub use line::{Count, Difference, Found, replay};

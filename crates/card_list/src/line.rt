@@ -1,55 +1,36 @@
 // The cards of one line, read, written again and compared.
 use crate::compare::{Compared, compare};
 use card_cells::Lengths;
-use card_edits::{Edit, make};
-use lists::seen::one_more;
-use lists::{Seen, seen};
+use card_edits::{Edit, Range, make};
+use lists::Seen;
 
-// How many cards were compared and how many of them differ, the byte that was put into the first that
-// does, and what its comparison found.
+// The byte that was put into a card that differs, and what its comparison found.
 #[derive(Clone, Copy)]
+pub struct Difference {
+    pub byte: u8,
+    pub seen: Seen,
+}
+
+// How many cards were compared, how many of them differ, and the first that does.
+#[derive(Clone, Copy, Default)]
 pub struct Count {
     pub cards: u64,
     pub differ: u64,
-    pub byte: u32,
-    pub first: Seen,
-}
-
-// No card yet.
-fn none() -> Count {
-    Count {
-        cards: 0,
-        differ: 0,
-        byte: 0,
-        first: seen::nothing(lines::LOST),
-    }
+    pub first: Option<Difference>,
 }
 
 impl Count {
     // One card more, into which this byte was put.
-    fn with(self, byte: u32, o: Seen) -> Count {
-        let first = self.first;
-        if o.differ == 0 {
-            return Count {
-                cards: one_more(self.cards),
-                differ: self.differ,
-                byte: self.byte,
-                first: first,
-            };
+    fn with(self, byte: u8, seen: Seen) -> Count {
+        let cards = self.cards.saturating_add(1);
+        if seen.differ == 0 {
+            return Count { cards, ..self };
         }
-        if self.differ == 0 {
-            return Count {
-                cards: one_more(self.cards),
-                differ: 1,
-                byte: byte,
-                first: o,
-            };
-        }
+        let own = Difference { byte, seen };
         Count {
-            cards: one_more(self.cards),
-            differ: one_more(self.differ),
-            byte: self.byte,
-            first: first,
+            cards,
+            differ: self.differ.saturating_add(1),
+            first: Some(self.first.unwrap_or(own)),
         }
     }
 }
@@ -66,8 +47,8 @@ pub struct Found {
 // No card yet.
 fn nothing() -> Found {
     Found {
-        read: none(),
-        back: none(),
+        read: Count::default(),
+        back: Count::default(),
         next: lines::LOST,
     }
 }
@@ -75,78 +56,52 @@ fn nothing() -> Found {
 impl Found {
     // Whether no card differs.
     pub fn agrees(self) -> bool {
-        let read = self.read;
-        let back = self.back;
-        read.differ == 0 && back.differ == 0
+        self.read.differ == 0 && self.back.differ == 0
     }
 
     // One card more, into which this byte was put.
-    fn with(self, byte: u32, c: Compared) -> Found {
-        let read = self.read;
-        let back = self.back;
-        let o = c.back;
-        if c.taken {
-            return Found {
-                read: read.with(byte, c.read),
-                back: back.with(byte, o),
-                next: o.next,
-            };
-        }
-        Found {
-            read: read.with(byte, c.read),
-            back: back,
-            next: o.next,
+    fn with(self, byte: u8, c: Compared) -> Found {
+        let read = self.read.with(byte, c.read);
+        match c.back {
+            Some(back) => Found {
+                read,
+                back: self.back.with(byte, back),
+                next: back.next,
+            },
+            None => Found {
+                read,
+                next: c.read.next,
+                ..self
+            },
         }
     }
 }
 
-// The byte that the edit puts another in the place of; 256 where it is no such edit.
-fn own(base: &[u8], e: Edit) -> u32 {
-    if e.put && e.skip == 1 {
-        lines::byte_at(base, e.at) as u32
+// The byte that the edit puts another in the place of, where it puts one in the place of one.
+fn own(base: &[u8], e: Edit) -> Option<u8> {
+    if e.skip == 1 {
+        base.get(e.at).copied()
     } else {
-        256
+        None
     }
 }
 
-// Puts the byte into the card, where the edit puts one in.
-fn put(card: &mut [u8], e: Edit, byte: u32) {
-    let at = e.at;
-    if e.put {
-        if at < card.len() {
-            card[at] = low(byte);
-        }
-    }
-}
-
-// A number below 256 as a byte.
-fn low(n: u32) -> u8 {
-    (n % 256) as u8
-}
-
-// The card with one byte of the range put in, compared. A byte in its own place is left out.
-fn turn(s: &[u8], e: Edit, own: u32, byte: u32, card: &mut [u8], l: Lengths, f: Found) -> Found {
-    if byte == own {
-        return f;
-    }
-    put(card, e, byte);
-    let c = compare(s, e.next, card, l);
-    f.with(byte, c)
-}
-
-// The number behind the last byte of the range; 0, so that there is no byte, where that is none.
-fn end_of(e: Edit) -> u32 {
-    if e.high < 256 { e.high + 1 } else { 0 }
-}
-
-// The card with each byte of the range put in, compared.
-fn turns(s: &[u8], e: Edit, own: u32, card: &mut [u8], l: Lengths) -> Found {
+// The card with each byte of the range put in at a position, compared. A byte in its own place is left
+// out; a range that does not end at a byte has none.
+fn turns(s: &[u8], base: &[u8], e: Edit, range: Range, card: &mut [u8], l: Lengths) -> Found {
     let mut f = nothing();
-    let end = end_of(e);
-    let mut byte = e.low;
-    while byte < end {
-        f = turn(s, e, own, byte, card, l, f);
-        byte += 1;
+    let (Ok(low), Ok(high)) = (u8::try_from(range.low), u8::try_from(range.high)) else {
+        return f;
+    };
+    let own = own(base, e);
+    for byte in low..=high {
+        if own == Some(byte) {
+            continue;
+        }
+        if e.at < card.len() {
+            card[e.at] = byte;
+        }
+        f = f.with(byte, compare(s, e.next, card, l));
     }
     f
 }
@@ -154,10 +109,15 @@ fn turns(s: &[u8], e: Edit, own: u32, card: &mut [u8], l: Lengths) -> Found {
 // Every card of the edit, compared with the line's words behind it.
 pub fn replay(s: &[u8], base: &[u8], e: Edit, l: Lengths) -> Found {
     let mut space = [0u8; 12288];
-    let card: &mut [u8] = &mut space;
-    let len = make(base, e, card);
-    if card.len() < len {
+    let Some(len) = make(base, e, &mut space) else {
+        return nothing();
+    };
+    if space.len() < len {
         return nothing();
     }
-    turns(s, e, own(base, e), &mut card[0..len], l)
+    let card = &mut space[..len];
+    match e.put {
+        Some(range) => turns(s, base, e, range, card, l),
+        None => nothing().with(0, compare(s, e.next, card, l)),
+    }
 }

@@ -8,6 +8,7 @@ use lib.Seq.{sets}
 use lib.Ieee.{Float, Format}
 use Rattle.card_text.specs.Card.{edition_key, states_key, observations_key, a_key, q_key, h_key, r_key}
 use Rattle.card_text.specs.Spelling.{card_text}
+use Rattle.card_text.proofs.Length.{squares}
 use Rattle.card_text.proofs.Theorems.{behind1, behind2, behind3, behind4, behind5, behind6}
 use Rattle.card_text.specs.Said.{said}
 use Rattle.card_spelling.proofs.Lining.{CountPut, EntriesPut, behind_count, behind-entries}
@@ -32,3 +33,7 @@ module _ (f : Format) (d n m : ℕ) (a q h r : List Float) (n-some : 1 ≤ n) (m
       let from3 = behind_count l2 p2 observations_key l3 p3 (behind3 d c) l7 from4 m e3 in
       let from2 = behind_count l1 p1 states_key l2 p2 (behind2 d c) l7 from3 n e2 in
       behind_count l 0 edition_key l1 p1 (behind1 d c) l7 from2 1 e1
+
+-- how many entries a matrix has at least and at most
+pub entries_few : (n m : ℕ) → 1 ≤ n → n ≤ 16 → 1 ≤ m → m ≤ 16 → (1 ≤ n * n) × (n * n ≤ 256) × (1 ≤ m * n) × (m * n ≤ 256) × (1 ≤ m * m) × (m * m ≤ 256)
+entries_few n m ln hn lm hm = let most = squares n m hn hm in (mul-pos ln ln, most.0, mul-pos lm ln, most.1, mul-pos lm lm, most.2)

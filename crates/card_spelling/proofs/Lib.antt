@@ -1,4 +1,3 @@
--- Laws of the lines that are put: one line behind another (Lining), a card (Carded), and room for its lines (Room).
+-- Laws of the lines that are put: one line behind another (Lining), and a card (Carded).
 mod Lining
 mod Carded
-mod Room

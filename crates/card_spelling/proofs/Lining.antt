@@ -1,11 +1,10 @@
 -- Lines put one behind the other: a key with its value and the newline, and then what comes behind the line. Assumes nothing.
-use mathlib.Core.Path.{◌≡◌, sym, ap, ◌∙◌}
+use mathlib.Core.Path.{◌≡◌, sym, ap, ap₂, ◌∙◌}
 use mathlib.Core.List.{List, [], ◌∷◌, ◌++◌, append_assoc}
 use Prim.Native.Nat.{ℕ, suc, ◌+◌, ◌*◌, ◌/◌, ◌%◌, ◌≤◌, ◌<◌}
-use native.Mathlib.Numerals.{add-one, add-two}
 use native.Mathlib.Omega.{arith}
 use borrow.Author.Tests.{lt-ltb, le-ltb}
-use lib.ListN.{length, set}
+use lib.ListN.{length}
 use lib.Seq.{sets}
 use lib.Ieee.{Float, Format}
 use Rattle.card_text.specs.Lines.{newline}
@@ -17,24 +16,26 @@ use Rattle.card_fields.proofs.Entering.{entries_bytes}
 
 -- ---- a line of a count: behind the key one digit or two, and the newline
 
-module _ (key : List ℕ) (at p n : ℕ) (place : p ≡ at + length key) where
-  -- below ten
-  module _ (h : n < 10) where
-    pub one-behind : p + 2 ≡ at + (length key + suc (count_digits n))
-    one-behind = rw (lt-ltb n 10 h) (omega arith)
+one_digit : (n : ℕ) → n < 10 → count_text n ≡ (48 + n) ∷ []
+unfolding count_text
+one_digit n h = rw (lt-ltb n 10 h)
 
-    pub one_put : (l z : List ℕ) → z ≡ sets l at key → set (set z p (48 + n)) (p + 1) newline ≡ sets l at (line key (count_text n) [])
-    unfolding count_text
-    one_put l z e = rw (lt-ltb n 10 h) (then_text l z at p key e place _ ((48 + n) ∷ newline ∷ []) (rw (add-one p)))
+two_digits : (n : ℕ) → 10 ≤ n → count_text n ≡ (48 + n / 10) ∷ (48 + n % 10) ∷ []
+unfolding count_text
+two_digits n h = rw (le-ltb n 10 h)
+
+module _ (key : List ℕ) (at p n : ℕ) (place : p ≡ at + length key) (l z w : List ℕ) (e : z ≡ sets l at key) where
+  -- below ten
+  pub one_put : n < 10 → (a : ℕ) → a ≡ 48 + n → w ≡ sets z p (a ∷ newline ∷ []) → w ≡ sets l at (line key (count_text n) [])
+  one_put h a ea s =
+      then_text l z at p key e place w (a ∷ newline ∷ []) s
+      ∙ ap (λ (t : List ℕ). sets l at (key ++ (t ++ (newline ∷ [])))) (ap (λ (x : ℕ). x ∷ []) ea ∙ sym (one_digit n h))
 
   -- from ten on
-  module _ (h : 10 ≤ n) where
-    pub two-behind : p + 3 ≡ at + (length key + suc (count_digits n))
-    two-behind = rw (le-ltb n 10 h) (omega arith)
-
-    pub two_put : (l z : List ℕ) → z ≡ sets l at key → set (set (set z p (48 + n / 10)) (p + 1) (48 + n % 10)) (p + 2) newline ≡ sets l at (line key (count_text n) [])
-    unfolding count_text
-    two_put l z e = rw (le-ltb n 10 h) (then_text l z at p key e place _ ((48 + n / 10) ∷ (48 + n % 10) ∷ newline ∷ []) (rw (add-one p, add-two p)))
+  pub two_put : 10 ≤ n → (a b : ℕ) → a ≡ 48 + n / 10 → b ≡ 48 + n % 10 → w ≡ sets z p (a ∷ b ∷ newline ∷ []) → w ≡ sets l at (line key (count_text n) [])
+  two_put h a b ea eb s =
+      then_text l z at p key e place w (a ∷ b ∷ newline ∷ []) s
+      ∙ ap (λ (t : List ℕ). sets l at (key ++ (t ++ (newline ∷ [])))) (ap₂ (λ (x y : ℕ). x ∷ y ∷ []) ea eb ∙ sym (two_digits n h))
 
 -- ---- a line, and a text behind it
 

@@ -1,11 +1,12 @@
-// The counts over a list.
+// The counts over a list of cards: another tally than those of `list_tally` and `roots`, which count calls
+// and roots; what the three share is the lines, the bad ones and the told.
 use card_list::Found;
-use lists::seen::one_more;
+use std::fmt;
 
 // How many lines were read, comments too; how many cards were read, and how many differences there are, a
 // card that differs or a line that is bad; how many cards were written again, and how many of them differ;
 // how many lines are bad; and how many lines were told of.
-#[derive(Clone, Copy)]
+#[derive(Clone, Copy, Default)]
 pub struct Tally {
     pub lines: u64,
     pub cards: u64,
@@ -16,62 +17,56 @@ pub struct Tally {
     pub told: u64,
 }
 
-// No line yet.
-pub fn empty() -> Tally {
-    Tally {
-        lines: 0,
-        cards: 0,
-        differ: 0,
-        written: 0,
-        unlike: 0,
-        bad: 0,
-        told: 0,
-    }
-}
-
-// The sum, or the largest number where it is larger.
-fn plus(a: u64, b: u64) -> u64 {
-    if b <= 0xffff_ffff_ffff_ffff - a {
-        a + b
-    } else {
-        0xffff_ffff_ffff_ffff
-    }
-}
-
 impl Tally {
     // One line more that has no card to read.
     pub fn line(self) -> Tally {
-        let mut t = self;
-        t.lines = one_more(self.lines);
-        t
+        Tally {
+            lines: self.lines.saturating_add(1),
+            ..self
+        }
     }
 
     // One line more that is bad, which counts as a difference.
     pub fn bad(self) -> Tally {
-        let mut t = self;
-        t.lines = one_more(self.lines);
-        t.differ = one_more(self.differ);
-        t.bad = one_more(self.bad);
-        t
+        Tally {
+            lines: self.lines.saturating_add(1),
+            differ: self.differ.saturating_add(1),
+            bad: self.bad.saturating_add(1),
+            ..self
+        }
     }
 
     // One line more, whose cards were read and written again.
     pub fn cards(self, f: Found) -> Tally {
-        let read = f.read;
-        let back = f.back;
-        let mut t = self;
-        t.lines = one_more(self.lines);
-        t.cards = plus(self.cards, read.cards);
-        t.differ = plus(self.differ, read.differ);
-        t.written = plus(self.written, back.cards);
-        t.unlike = plus(self.unlike, back.differ);
-        t
+        Tally {
+            lines: self.lines.saturating_add(1),
+            cards: self.cards.saturating_add(f.read.cards),
+            differ: self.differ.saturating_add(f.read.differ),
+            written: self.written.saturating_add(f.back.cards),
+            unlike: self.unlike.saturating_add(f.back.differ),
+            ..self
+        }
     }
 
     // One line more that was told of.
     pub fn tell(self) -> Tally {
-        let mut t = self;
-        t.told = one_more(self.told);
-        t
+        Tally {
+            told: self.told.saturating_add(1),
+            ..self
+        }
+    }
+}
+
+// The counts at the end, as the program writes them.
+impl fmt::Display for Tally {
+    fn fmt<W: fmt::Write>(&self, f: &mut fmt::Formatter<W>) -> fmt::Result {
+        let cards = self.cards;
+        let differ = self.differ;
+        let written = self.written;
+        let unlike = self.unlike;
+        let bad = self.bad;
+        write!(f, "{cards} cards read, {differ} differ\n")?;
+        write!(f, "{written} cards written again, {unlike} differ\n")?;
+        write!(f, "{bad} bad lines")
     }
 }

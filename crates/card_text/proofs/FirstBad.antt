@@ -11,9 +11,9 @@ use lib.Arith.{lt_of_le-ne}
 use lib.Dec.{eqb}
 use lib.ListN.{get_or}
 use borrow.Author.Tests.{eqb-true, eqb-false, ne_eqb}
-use Rattle.answers.specs.declared.Answer.{Answer}
-use Rattle.answers.specs.declared.Answer.TheVariants.{Done, Size, Short, Range, Pivot, Line, Edition, NotFinite}
-use Rattle.answers.specs.Answers.{is_done, carried_by}
+use Rattle.std.proofs.Common.{Ok, Err}
+use Rattle.answers.specs.declared.Refusal.TheVariants.{Size, Short, Range, Pivot, Line, Edition, NotFinite}
+use Rattle.answers.specs.Answers.{is_done, carried_by, Answer}
 use Rattle.answers.specs.Tests.{after_tests}
 use Rattle.answers.proofs.Asked.{stays}
 use Rattle.card_text.specs.Lines.{ends}
@@ -25,22 +25,22 @@ use Rattle.card_text.proofs.Spelt.{count_line_lem, count_of_lem}
 -- ---- the tests, line by line
 
 -- a test that says b decides whether the tests behind it are asked
-one : (b : Bool) (v : Answer) (ws : List Answer) → is_done v ≡ false → after_tests Done (cond b Done v ∷ ws) ≡ cond b (after_tests Done ws) v
+one : (b : Bool) (v : Answer) (ws : List Answer) → is_done v ≡ false → after_tests (Ok tt) (cond b (Ok tt) v ∷ ws) ≡ cond b (after_tests (Ok tt) ws) v
 one true v ws e = refl
 one false v ws e = stays v ws e
 
 -- what a line is refused with whose form is right, and which says what is not taken
 abbrev refusal : ℕ → Answer
-refusal zero = Done
-refusal (suc zero) = Edition
-refusal (suc (suc zero)) = Size 0
-refusal (suc (suc (suc k))) = Size 1
+refusal zero = Ok tt
+refusal (suc zero) = Err Edition
+refusal (suc (suc zero)) = Err (Size 0)
+refusal (suc (suc (suc k))) = Err (Size 1)
 
 module _ (d : ℕ) (s : List ℕ) where
   -- the answer of i lines from line k on ..
   walk : ℕ → ℕ → Answer
-  walk zero k = Done
-  walk (suc i) k = cond (good d s k) (cond (taken s k) (walk i (suc k)) (refusal k)) (Line k)
+  walk zero k = Ok tt
+  walk (suc i) k = cond (good d s k) (cond (taken s k) (walk i (suc k)) (refusal k)) (Err (Line k))
 
   -- .. of eight lines from the first on, the eighth being what stands behind the seventh, is the card's
   is_walk : card_answer d s ≡ walk 8 1
@@ -76,7 +76,7 @@ module _ (d : ℕ) (s : List ℕ) where
   decide zero k l e above = right (λ j b. above j (omega arith))
   decide (suc i) k l e above = at (good d s k) refl (taken s k) refl (decide i (suc k) (omega arith) (omega arith))
     where
-      at : (x : Bool) → good d s k ≡ x → (y : Bool) → taken s k ≡ y → (RightAbove d s (suc k) → CardGiven d s (walk i (suc k))) → CardGiven d s (cond x (cond y (walk i (suc k)) (refusal k)) (Line k))
+      at : (x : Bool) → good d s k ≡ x → (y : Bool) → taken s k ≡ y → (RightAbove d s (suc k) → CardGiven d s (walk i (suc k))) → CardGiven d s (cond x (cond y (walk i (suc k)) (refusal k)) (Err (Line k)))
       at false g y t below = bad_line k l (omega arith) above g
       at true g false t below = not_taken k l above g t
       at true g true t below = below (next k above g t)
@@ -112,14 +112,14 @@ module _ (d : ℕ) (s : List ℕ) where
 
   -- 2, 3, 4 and 9 are never given
   abbrev Says : Answer → Type 0
-  Says Done = RightAbove d s 9
-  Says (Size k) = (k ≤ 1) × RightAbove d s (k + 2) × (good d s (k + 2) ≡ true) × (taken s (k + 2) ≡ false)
-  Says (Short k) = ⊥
-  Says (Range k) = ⊥
-  Says (Pivot k) = ⊥
-  Says (Line k) = (1 ≤ k) × (k ≤ 8) × (good d s k ≡ false) × RightAbove d s k
-  Says Edition = (good d s 1 ≡ true) × (taken s 1 ≡ false)
-  Says NotFinite = ⊥
+  Says (Ok tt) = RightAbove d s 9
+  Says (Err (Size k)) = (k ≤ 1) × RightAbove d s (k + 2) × (good d s (k + 2) ≡ true) × (taken s (k + 2) ≡ false)
+  Says (Err (Short k)) = ⊥
+  Says (Err (Range k)) = ⊥
+  Says (Err (Pivot k)) = ⊥
+  Says (Err (Line k)) = (1 ≤ k) × (k ≤ 8) × (good d s k ≡ false) × RightAbove d s k
+  Says (Err Edition) = (good d s 1 ≡ true) × (taken s 1 ≡ false)
+  Says (Err NotFinite) = ⊥
 
   reason : (v : Answer) → CardGiven d s v → Says v
   reason v (bad_line k l h above g) = (l, h, g, above)
@@ -132,42 +132,42 @@ module _ (d : ℕ) (s : List ℕ) where
   says e = subst Says e (reason (card_answer d s) given)
 
   -- The line that is named is bad, and nothing is wrong above it.
-  pub first_bad_named : {k : ℕ} → card_answer d s ≡ Line k → (1 ≤ k) × (k ≤ 8) × (good d s k ≡ false) × RightAbove d s k
+  pub first_bad_named : {k : ℕ} → card_answer d s ≡ Err (Line k) → (1 ≤ k) × (k ≤ 8) × (good d s k ≡ false) × RightAbove d s k
   first_bad_named e = says e
 
   -- The size that is named is one of two, its line is well formed and says what is not taken, and nothing is wrong above it.
-  pub size_named : {k : ℕ} → card_answer d s ≡ Size k → (k ≤ 1) × RightAbove d s (k + 2) × (good d s (k + 2) ≡ true) × (taken s (k + 2) ≡ false)
+  pub size_named : {k : ℕ} → card_answer d s ≡ Err (Size k) → (k ≤ 1) × RightAbove d s (k + 2) × (good d s (k + 2) ≡ true) × (taken s (k + 2) ≡ false)
   size_named e = says e
 
   -- Where the edition is refused, its line is well formed and says another.
-  pub edition_named : card_answer d s ≡ Edition → (good d s 1 ≡ true) × (taken s 1 ≡ false)
+  pub edition_named : card_answer d s ≡ Err Edition → (good d s 1 ≡ true) × (taken s 1 ≡ false)
   edition_named e = says e
 
   -- Every line of a card that is done is right ..
-  pub done_right : card_answer d s ≡ Done → RightAbove d s 9
+  pub done_right : card_answer d s ≡ Ok tt → RightAbove d s 9
   done_right e = says e
 
   -- .. and a card of which every line is right is done.
-  pub right_done : RightAbove d s 9 → card_answer d s ≡ Done
-  right_done above = sym (given_only Done (right above))
+  pub right_done : RightAbove d s 9 → card_answer d s ≡ Ok tt
+  right_done above = sym (given_only (Ok tt) (right above))
 
   -- No answer carries more than 8.
   pub carried_small : get_or (carried_by (card_answer d s)) 0 0 ≤ 8
   carried_small = at (card_answer d s) (reason (card_answer d s) given)
     where
       at : (v : Answer) → Says v → get_or (carried_by v) 0 0 ≤ 8
-      at Done h = omega arith
-      at (Size k) h = omega arith
-      at (Short k) h = absurd h
-      at (Range k) h = absurd h
-      at (Pivot k) h = absurd h
-      at (Line k) h = h.1
-      at Edition h = omega arith
-      at NotFinite h = absurd h
+      at (Ok tt) h = omega arith
+      at (Err (Size k)) h = omega arith
+      at (Err (Short k)) h = absurd h
+      at (Err (Range k)) h = absurd h
+      at (Err (Pivot k)) h = absurd h
+      at (Err (Line k)) h = h.1
+      at (Err Edition) h = omega arith
+      at (Err NotFinite) h = absurd h
 
 -- An edition of one or two digits other than 1 is answered with 6, whatever stands below line 1.
-pub edition-alone : (d e : ℕ) (t : List ℕ) → e < 100 → (e ≡ 1 → ⊥) → card_answer d (line edition_key (count_text e) t) ≡ Edition
+pub edition-alone : (d e : ℕ) (t : List ℕ) → e < 100 → (e ≡ 1 → ⊥) → card_answer d (line edition_key (count_text e) t) ≡ Err Edition
 unfolding good taken ends
 edition-alone d e t h other =
     let s = line edition_key (count_text e) t in
-    sym (given_only d s Edition (other_edition (count_line_lem edition_key e t refl h) (rw (count_of_lem edition_key e t refl h) (ne_eqb e 1 other))))
+    sym (given_only d s (Err Edition) (other_edition (count_line_lem edition_key e t refl h) (rw (count_of_lem edition_key e t refl h) (ne_eqb e 1 other))))

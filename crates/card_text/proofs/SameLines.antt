@@ -5,7 +5,8 @@ use mathlib.Core.Bool.{true, false}
 use mathlib.Core.List.{List}
 use Prim.Native.Nat.{ℕ, zero, suc, ◌+◌, ◌*◌, ◌≤◌}
 use native.Mathlib.Omega.{arith}
-use Rattle.answers.specs.declared.Answer.TheVariants.{Size, Line, Edition}
+use Rattle.std.proofs.Common.{Err}
+use Rattle.answers.specs.declared.Refusal.TheVariants.{Size, Line, Edition}
 use Rattle.card_text.specs.Lines.{behind_lines, SameLine, SameLines}
 use Rattle.card_text.specs.Card.{edition_key, states_key, observations_key, a_key, q_key, h_key, r_key, count_line, count_of, entries_line, states_of, observations_of, card_answer}
 use Rattle.card_text.specs.FirstBad.{good, taken, RightAbove, bad_line, other_edition, bad_states, bad_observations}
@@ -65,22 +66,22 @@ module _ (d : ℕ) (s t : List ℕ) where
       (sym (good_same j (omega arith) before) ∙ (above j l).0, sym (taken_same j before) ∙ (above j l).1)
 
   -- A text with the same first k lines as one that is refused with 5 and line k is refused so too ..
-  pub line-below : (k : ℕ) → k ≤ 7 → SameLines k s t → card_answer d s ≡ Line k → card_answer d t ≡ Line k
+  pub line-below : (k : ℕ) → k ≤ 7 → SameLines k s t → card_answer d s ≡ Err (Line k) → card_answer d t ≡ Err (Line k)
   line-below k h same e =
       let n = first_bad_named d s e in
-      sym (given_only d t (Line k) (bad_line k n.0 n.1 (right_same k h same n.3) (sym (good_same k h same) ∙ n.2)))
+      sym (given_only d t (Err (Line k)) (bad_line k n.0 n.1 (right_same k h same n.3) (sym (good_same k h same) ∙ n.2)))
 
   -- .. one with the same first line as one that is refused with 6, with 6 ..
-  pub edition-below : SameLines 1 s t → card_answer d s ≡ Edition → card_answer d t ≡ Edition
+  pub edition-below : SameLines 1 s t → card_answer d s ≡ Err Edition → card_answer d t ≡ Err Edition
   edition-below same e =
       let n = edition_named d s e in
-      sym (given_only d t Edition (other_edition (sym (good_same 1 (omega arith) same) ∙ n.0) (sym (taken_same 1 same) ∙ n.1)))
+      sym (given_only d t (Err Edition) (other_edition (sym (good_same 1 (omega arith) same) ∙ n.0) (sym (taken_same 1 same) ∙ n.1)))
 
   -- .. and one with the same lines down to the size that is refused with 1, with 1 of that size.
-  pub size_below : (k : ℕ) → SameLines (k + 2) s t → card_answer d s ≡ Size k → card_answer d t ≡ Size k
+  pub size_below : (k : ℕ) → SameLines (k + 2) s t → card_answer d s ≡ Err (Size k) → card_answer d t ≡ Err (Size k)
   size_below k same e = at k same (size_named d s e)
     where
-      at : (k : ℕ) → SameLines (k + 2) s t → (k ≤ 1) × RightAbove d s (k + 2) × (good d s (k + 2) ≡ true) × (taken s (k + 2) ≡ false) → card_answer d t ≡ Size k
-      at zero same n = sym (given_only d t (Size 0) (bad_states (right_same 2 (omega arith) same n.1) (sym (good_same 2 (omega arith) same) ∙ n.2) (sym (taken_same 2 same) ∙ n.3)))
-      at (suc zero) same n = sym (given_only d t (Size 1) (bad_observations (right_same 3 (omega arith) same n.1) (sym (good_same 3 (omega arith) same) ∙ n.2) (sym (taken_same 3 same) ∙ n.3)))
+      at : (k : ℕ) → SameLines (k + 2) s t → (k ≤ 1) × RightAbove d s (k + 2) × (good d s (k + 2) ≡ true) × (taken s (k + 2) ≡ false) → card_answer d t ≡ Err (Size k)
+      at zero same n = sym (given_only d t (Err (Size 0)) (bad_states (right_same 2 (omega arith) same n.1) (sym (good_same 2 (omega arith) same) ∙ n.2) (sym (taken_same 2 same) ∙ n.3)))
+      at (suc zero) same n = sym (given_only d t (Err (Size 1)) (bad_observations (right_same 3 (omega arith) same n.1) (sym (good_same 3 (omega arith) same) ∙ n.2) (sym (taken_same 3 same) ∙ n.3)))
       at (suc (suc k)) same n = absurd (omega (arith, n.0))

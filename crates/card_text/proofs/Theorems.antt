@@ -10,7 +10,7 @@ use native.Mathlib.Nat.{mul-pos}
 use native.Mathlib.Omega.{arith}
 use lib.Dec.{lit<}
 use borrow.Author.Tests.{le-leb, leb-true, eqb-true}
-use Rattle.answers.specs.declared.Answer.TheVariants.{Done}
+use Rattle.std.proofs.Common.{Ok}
 use Rattle.answers.specs.Tests.{size_taken}
 use Rattle.card_text.specs.Lines.{ends, behind_line, behind_lines}
 use Rattle.card_text.specs.Card.{edition_key, states_key, observations_key, a_key, q_key, h_key, r_key, count_of, states_of, observations_of, nothing, a_of, q_of, h_of, r_of, card_answer}
@@ -133,7 +133,7 @@ module _ (d : ℕ) (c : Settings) where
     right8 = next d s 8 right7 (rw at7) refl
 
     -- The card of settings is taken ..
-    pub text-taken : card_answer d (card_text d c) ≡ Done
+    pub text-taken : card_answer d (card_text d c) ≡ Ok tt
     text-taken = right_done d s right8
 
     -- .. and holds the settings.
@@ -171,7 +171,7 @@ is_nothing (b ∷ t) e = absurd (true≢false (sym e))
 is_size : (n : ℕ) → size_taken n ≡ true → (1 ≤ n) × (n ≤ 16)
 is_size n e = let both = (and-eq-true_iff _ _).0 e in (leb-true _ _ both.0, leb-true _ _ both.1)
 
-module _ (d : ℕ) (t : List ℕ) (done : card_answer d t ≡ Done) where
+module _ (d : ℕ) (t : List ℕ) (done : card_answer d t ≡ Ok tt) where
   -- line k is as it must be, and what it says is taken
   well : (k : ℕ) → k ≤ 8 → good d t k ≡ true
   well k h = (done_right d t done k (omega arith)).0
@@ -237,11 +237,11 @@ module _ (d : ℕ) (t : List ℕ) (done : card_answer d t ≡ Done) where
 -- ---- exactly
 
 -- A text is taken exactly where it is the card of some sound settings.
-pub taken_exactly : (d : ℕ) (t : List ℕ) → (card_answer d t ≡ Done) ↔ ((c : Settings) × Sound d c × (t ≡ card_text d c))
+pub taken_exactly : (d : ℕ) (t : List ℕ) → (card_answer d t ≡ Ok tt) ↔ ((c : Settings) × Sound d c × (t ≡ card_text d c))
 taken_exactly d t = (λ done. (held d t, taken_sound d t done, taken-text d t done), λ f. ap (card_answer d) f.2 ∙ text-taken d f.0 f.1)
 
 -- Two texts that are taken and hold the same are the same bytes.
-pub one_spelling : (d : ℕ) (t u : List ℕ) → card_answer d t ≡ Done → card_answer d u ≡ Done → held d t ≡ held d u → t ≡ u
+pub one_spelling : (d : ℕ) (t u : List ℕ) → card_answer d t ≡ Ok tt → card_answer d u ≡ Ok tt → held d t ≡ held d u → t ≡ u
 one_spelling d t u e f same = taken-text d t e ∙ ap (card_text d) same ∙ sym (taken-text d u f)
 
 -- Sound settings with the same card are the same.

@@ -1,8 +1,8 @@
 -- A settings card: which text is one, what the first bad line is answered with, and what the card holds (R34). Definitions only.
 -- d is how many digits an entry has: eight for binary32.
-use Rattle.std.specs.Prelude.{Bool, true, false, ◌&&◌, cond, List, [], ◌∷◌, ◌++◌, ℕ, ◌*◌, eqb, length, drop}
-use Rattle.answers.specs.declared.Answer.{Answer}
-use Rattle.answers.specs.declared.Answer.TheVariants.{Done, Line, Edition}
+use Rattle.std.specs.Prelude.{Bool, true, false, ◌&&◌, cond, List, [], ◌∷◌, ◌++◌, ℕ, ◌*◌, eqb, length, drop, Ok, Err}
+use Rattle.answers.specs.declared.Refusal.TheVariants.{Line, Edition}
+use Rattle.answers.specs.Answers.{Answer}
 use Rattle.answers.specs.Tests.{size_test, Lent, lent, buffer_tests, after_tests}
 use Rattle.card_text.specs.Lines.{ends, first_line, behind_lines}
 use Rattle.card_text.specs.Values.{begins, is_count, number_in, are_entries, entries_in}
@@ -74,11 +74,11 @@ nothing (b ∷ t) = false
 
 -- refusal 5 of line k where it is not as it must be
 abbrev pub line_test : ℕ → Bool → Answer
-line_test k good = cond good Done (Line k)
+line_test k good = cond good (Ok tt) (Err (Line k))
 
 -- refusal 6 of an edition other than 1
 abbrev pub edition_test : ℕ → Answer
-edition_test e = cond (eqb e 1) Done Edition
+edition_test e = cond (eqb e 1) (Ok tt) (Err Edition)
 
 -- The tests of lines 1 to 3 of a card of n states and m observations, from the top: line 1 and its edition, lines 2 and 3 and their sizes
 abbrev pub head_tests : ℕ → ℕ → List ℕ → List Answer
@@ -107,7 +107,7 @@ card_tests d n m s = head_tests n m s ++ matrix_tests d n m s
 
 -- what the card by itself is answered with: the first test that fails decides
 unfoldable pub card_answer : ℕ → List ℕ → Answer
-card_answer d s = after_tests Done (card_tests d (states_of s) (observations_of s) s)
+card_answer d s = after_tests (Ok tt) (card_tests d (states_of s) (observations_of s) s)
 
 -- the buffers for A, Q, H and R of n states and m observations, of so many numbers
 abbrev pub buffers : ℕ → ℕ → ℕ → ℕ → ℕ → ℕ → List Lent

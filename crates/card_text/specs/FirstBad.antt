@@ -1,7 +1,7 @@
 -- Which answer a card is given exactly when (R34): the first thing from the top that is wrong. Definitions only.
-use Rattle.std.specs.Prelude.{◌≡◌, Bool, true, false, List, ℕ, zero, suc, ◌*◌, ◌≤◌, ◌<◌, eqb}
-use Rattle.answers.specs.declared.Answer.{Answer}
-use Rattle.answers.specs.declared.Answer.TheVariants.{Done, Size, Line, Edition}
+use Rattle.std.specs.Prelude.{◌≡◌, Bool, true, false, List, ℕ, zero, suc, ◌*◌, ◌≤◌, ◌<◌, eqb, Ok, Err}
+use Rattle.answers.specs.declared.Refusal.TheVariants.{Size, Line, Edition}
+use Rattle.answers.specs.Answers.{Answer}
 use Rattle.answers.specs.Tests.{size_taken}
 use Rattle.card_text.specs.Lines.{behind_lines}
 use Rattle.card_text.specs.Card.{edition_key, states_key, observations_key, a_key, q_key, h_key, r_key, count_line, count_of, entries_line, states_of, observations_of, nothing}
@@ -33,12 +33,12 @@ RightAbove d s k = (j : ℕ) → j < k → (good d s j ≡ true) × (taken s j �
 -- A row for each answer: when it is given.
 pub data CardGiven (d : ℕ) (s : List ℕ) : Answer → Type 0 where
   -- 5: line k, of 1 to 8, is not as it must be, and nothing is wrong above it
-  bad_line : (k : ℕ) → 1 ≤ k → k ≤ 8 → RightAbove d s k → good d s k ≡ false → CardGiven d s (Line k)
+  bad_line : (k : ℕ) → 1 ≤ k → k ≤ 8 → RightAbove d s k → good d s k ≡ false → CardGiven d s (Err (Line k))
   -- 6: line 1 is well formed, and says another edition
-  other_edition : good d s 1 ≡ true → taken s 1 ≡ false → CardGiven d s Edition
+  other_edition : good d s 1 ≡ true → taken s 1 ≡ false → CardGiven d s (Err Edition)
   -- 1 of the states: nothing is wrong above line 2, which is well formed and says a size that is not taken
-  bad_states : RightAbove d s 2 → good d s 2 ≡ true → taken s 2 ≡ false → CardGiven d s (Size 0)
+  bad_states : RightAbove d s 2 → good d s 2 ≡ true → taken s 2 ≡ false → CardGiven d s (Err (Size 0))
   -- 1 of the observations, the same of line 3
-  bad_observations : RightAbove d s 3 → good d s 3 ≡ true → taken s 3 ≡ false → CardGiven d s (Size 1)
+  bad_observations : RightAbove d s 3 → good d s 3 ≡ true → taken s 3 ≡ false → CardGiven d s (Err (Size 1))
   -- none of them
-  right : RightAbove d s 9 → CardGiven d s Done
+  right : RightAbove d s 9 → CardGiven d s (Ok tt)

@@ -1,2 +1,2 @@
--- Laws of a card judged line by line.
-pub mod Judging
+-- What a line's result tells of the card, and what the tests passed and failed so far make of its answer (Judging).
+mod Judging

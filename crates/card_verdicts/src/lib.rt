@@ -1,106 +1,65 @@
 // Which settings card is taken (R34). For `cards`.
 #![tactic(auto)]
 
-ghost use Rattle.std.specs.Prelude.{◌≡◌, false, ◌≤◌, length};
-ghost use Rattle.card_text.specs.Lines.{ends};
+ghost use Rattle.std.specs.Prelude.{◌≡◌, false, List, ℕ, ◌≤◌};
+ghost use Rattle.card_text.specs.Lines.{ends, behind_lines};
 ghost use Rattle.card_text.specs.Card.{card_answer};
-ghost use Rattle.card_verdicts.specs.Verdicts.{Here, head_answer, matrices_answer, Judged, SizedAt};
+ghost use Rattle.card_verdicts.specs.Verdicts.{head_answer, matrices_answer, Judged, SizedBy};
 
-use answers::Answer;
-use card_lines::{Counted, Found, count_line, entries_line};
+use answers::{Answer, Refusal};
+use card_lines::{count_line, entries_line};
 
-// What judging a card finds.
-#[derive(Clone, Copy)]
-pub enum Verdict {
-    // It is right: how many states and observations it has, and where its line 4 begins.
-    Taken(usize, usize, usize),
-    // The first thing that is wrong.
-    Refused(Answer),
-}
-
-// Judges the whole card.
-pub fn judge(s: &[u8]) -> Verdict
-    ensures { Judged (card_answer 8 s.now) s.now result }
+// Judges the whole card. Where it is right: how many states and observations it has, and the card from
+// line 4 on. Else the first thing that is wrong.
+pub fn judge(card: &[u8]) -> Result<(usize, usize, &[u8]), Refusal>
+    ensures { Judged (card_answer 8 card.now) card.now result }
 {
-    match heading(s) {
-        Verdict::Refused(v) => Verdict::Refused(v),
-        Verdict::Taken(n, m, at) => {
-            let v = matrices(s, at, n, m);
-            if answers::is_done(v) {
-                Verdict::Taken(n, m, at)
-            } else {
-                Verdict::Refused(v)
-            }
-        }
-    }
+    let (n, m, rest) = heading(card)?;
+    matrices(rest, n, m)?;
+    Ok((n, m, rest))
 }
 
 // Judges lines 1 to 3: the edition and both sizes.
-fn heading(s: &[u8]) -> Verdict
-    ensures { Judged (head_answer s.now) s.now result }
+fn heading(card: &[u8]) -> Result<(usize, usize, &[u8]), Refusal>
+    ensures { Judged (head_answer card.now) card.now result }
 {
-    let Counted::Number(edition, p) = count_line(s, 0, b"edition=") else {
-        return Verdict::Refused(Answer::Line(1));
-    };
+    let (edition, rest) = count_line(card, b"edition=").ok_or(Refusal::Line(1))?;
     if edition != 1 {
-        return Verdict::Refused(Answer::Edition);
+        return Err(Refusal::Edition);
     }
-    match size_line(s, p, b"states=", 2, 0) {
-        Sized::Refused(v) => Verdict::Refused(v),
-        Sized::Size(n, q) => match size_line(s, q, b"observations=", 3, 1) {
-            Sized::Refused(v) => Verdict::Refused(v),
-            Sized::Size(m, at) => Verdict::Taken(n, m, at),
-        },
-    }
+    let (n, rest) = size_line(rest, b"states=", 2, 0)?;
+    let (m, rest) = size_line(rest, b"observations=", 3, 1)?;
+    Ok((n, m, rest))
 }
 
-// What judging a line with a size finds.
-#[derive(Clone, Copy)]
-enum Sized {
-    // It is right: the size, and where the next line begins.
-    Size(usize, usize),
-    // The line, or its size, is wrong.
-    Refused(Answer),
-}
-
-// Judges a line with a size: its number is `line`, and the size is the `which`-th of the card.
-fn size_line(s: &[u8], at: usize, key: &[u8], line: usize, which: usize) -> Sized
-    requires { (at ≤ length s.now) × (ends key.now ≡ false) }
-    ensures { SizedAt key.now line which s.now at result }
+// Judges the first line of the text, with a size: its number is `line`, and the size is the `which`-th
+// of the card. Where both are right: the size, and the text behind the line.
+fn size_line<'a>(
+    text: &'a [u8],
+    key: &[u8],
+    line: usize,
+    which: usize,
+) -> Result<(usize, &'a [u8]), Refusal>
+    requires { ends key.now ≡ false }
+    ensures { SizedBy key.now line which text.now result }
 {
-    match count_line(s, at, key) {
-        Counted::Bad => Sized::Refused(Answer::Line(line)),
-        Counted::Number(n, next) => {
-            let v = answers::then_size(Answer::Done, which, n);
-            if answers::is_done(v) {
-                Sized::Size(n, next)
-            } else {
-                Sized::Refused(v)
-            }
-        }
-    }
+    let (n, rest) = count_line(text, key).ok_or(Refusal::Line(line))?;
+    answers::then_size(Ok(()), which, n)?;
+    Ok((n, rest))
 }
 
-// Judges lines 4 to 7, of which the first begins at the position, and that nothing stands behind them.
-fn matrices(s: &[u8], at: usize, n: usize, m: usize) -> Answer
-    requires { Here s.now at 3 × (1 ≤ n) × (n ≤ 16) × (1 ≤ m) × (m ≤ 16) }
-    ensures { result ≡ matrices_answer 8 n m s.now }
+// Judges lines 4 to 7, with which the text begins, and that nothing stands behind them.
+fn matrices(text: &[u8], n: usize, m: usize) -> Answer
+    requires { (1 ≤ n) × (n ≤ 16) × (1 ≤ m) × (m ≤ 16) }
+    ensures { (s : List ℕ) → text.now ≡ behind_lines 3 s → result ≡ matrices_answer 8 n m s }
 {
-    let Found::Next(q) = entries_line(s, at, b"a=", n * n) else {
-        return Answer::Line(4);
-    };
-    let Found::Next(h) = entries_line(s, q, b"q=", n * n) else {
-        return Answer::Line(5);
-    };
-    let Found::Next(r) = entries_line(s, h, b"h=", m * n) else {
-        return Answer::Line(6);
-    };
-    let Found::Next(end) = entries_line(s, r, b"r=", m * m) else {
-        return Answer::Line(7);
-    };
-    if end < s.len() {
-        Answer::Line(8)
+    let q = entries_line(text, b"a=", n * n).ok_or(Refusal::Line(4))?;
+    let h = entries_line(q, b"q=", n * n).ok_or(Refusal::Line(5))?;
+    let r = entries_line(h, b"h=", m * n).ok_or(Refusal::Line(6))?;
+    let end = entries_line(r, b"r=", m * m).ok_or(Refusal::Line(7))?;
+    if end.is_empty() {
+        Ok(())
     } else {
-        Answer::Done
+        Err(Refusal::Line(8))
     }
 }

@@ -9,19 +9,15 @@ use lib.ListN.{length, take, drop, take-append-drop}
 use lib.Seq.{sets, sets-eq}
 use lib.Ieee.{Float, Format, top}
 use borrow.Author.Tests.{le-ltb}
-use Rattle.answers.specs.declared.Answer.{Answer}
-use Rattle.answers.specs.declared.Answer.TheVariants.{Done}
-use Rattle.answers.specs.Answers.{is_done}
-use Rattle.answers.proofs.Kept.{is_done_lem}
+use Rattle.std.specs.Prelude.{Result, Ok, Err}
+use Rattle.answers.specs.declared.Refusal.{Refusal}
+use Rattle.answers.specs.Answers.{is_done, Answer}
+use Rattle.answers.proofs.Kept.{is_done_lem, err_not_done}
 use Rattle.card_text.specs.Card.{states_of, observations_of, card_answer, read_answer}
 use Rattle.card_text.specs.Spelling.{Sound, held, card_length}
 use Rattle.card_text.proofs.Theorems.{taken_sound}
 use Rattle.card_text.proofs.Length.{squares, length_at_most}
 use Rattle.card_text.proofs.Buffers.{card-first, right_taken}
-use Rattle.cards.specs.declared.Card.{Card}
-use Rattle.cards.specs.declared.Card.TheVariants.{Sizes, Refused}
-use Rattle.cards.specs.declared.Written.{Written}
-use Rattle.cards.specs.declared.Written.TheVariants.{Length}
 use Rattle.cards.specs.Read.{CardRead}
 use Rattle.cards.specs.Written.{write_answer, CardWritten}
 use Rattle.cards.proofs.Theorems.{told_refused, told_sizes, bytes_alone, measured_refused}
@@ -52,17 +48,17 @@ put_in_front t b b' l long room front past =
 -- ---- there is room
 
 module _ (d : ℕ) (s : List ℕ) (la lq lh lr : ℕ) (a-room : 256 ≤ la) (q_room : 256 ≤ lq) (h-room : 256 ≤ lh) (r-room : 256 ≤ lr) where
-  module _ (done : card_answer d s ≡ Done) where
+  module _ (done : card_answer d s ≡ Ok tt) where
     sound : Sound d (held d s)
     sound = taken_sound d s done
 
     few : (states_of s * states_of s ≤ 256) × (observations_of s * states_of s ≤ 256) × (observations_of s * observations_of s ≤ 256)
     few = squares (states_of s) (observations_of s) sound.states_most sound.observations_most
 
-    read_done : read_answer d s la lq lh lr ≡ Done
+    read_done : read_answer d s la lq lh lr ≡ Ok tt
     read_done = right_taken d s la lq lh lr done (omega (arith, few)) (omega (arith, few)) (omega (arith, few)) (omega (arith, few))
 
-    write_done : (lb : ℕ) → 44 + 1024 * suc d ≤ lb → write_answer d (states_of s) (observations_of s) la lq lh lr lb ≡ Done
+    write_done : (lb : ℕ) → 44 + 1024 * suc d ≤ lb → write_answer d (states_of s) (observations_of s) la lq lh lr lb ≡ Ok tt
     write_done lb h =
         bytes_alone d (states_of s) (observations_of s) la lq lh lr lb sound.states_least sound.states_most sound.observations_least sound.observations_most (omega (arith, few)) (omega (arith, few)) (omega (arith, few)) (omega (arith, few))
         ∙ rw (le-ltb lb (card_length d (states_of s) (observations_of s)) (omega (arith, length_at_most d (states_of s) (observations_of s) sound.states_most sound.observations_most)))
@@ -77,7 +73,7 @@ module _ (d : ℕ) (s : List ℕ) (la lq lh lr : ℕ) (a-room : 256 ≤ la) (q_r
 
 -- ---- what is left
 
-module _ (f : Format) (d : ℕ) (s : List ℕ) {a₀ q₀ h₀ r₀ a q h r : List Float} {v : Card} (c : CardRead f d s a₀ q₀ h₀ r₀ v a q h r) (a-room : 256 ≤ length a₀) (q_room : 256 ≤ length q₀) (h-room : 256 ≤ length h₀) (r-room : 256 ≤ length r₀) where
+module _ (f : Format) (d : ℕ) (s : List ℕ) {a₀ q₀ h₀ r₀ a q h r : List Float} {v : Result (ℕ × ℕ) Refusal} (c : CardRead f d s a₀ q₀ h₀ r₀ v a q h r) (a-room : 256 ≤ length a₀) (q_room : 256 ≤ length q₀) (h-room : 256 ≤ length h₀) (r-room : 256 ≤ length r₀) where
   abbrev answer : Answer
   answer = read_answer d s (length a₀) (length q₀) (length h₀) (length r₀)
 
@@ -85,32 +81,33 @@ module _ (f : Format) (d : ℕ) (s : List ℕ) {a₀ q₀ h₀ r₀ a q h r : Li
   decides = card_decides d s (length a₀) (length q₀) (length h₀) (length r₀) a-room q_room h-room r-room
 
   -- The card was refused, and words for that were put.
-  pub words_put : (u : Answer) (b b' : List ℕ) (l : ℕ) → v ≡ Refused u → l ≡ length (words_of u) → b' ≡ sets b 0 (words_of u) → Reported f d s b l b'
+  pub words_put : (u : Refusal) (b b' : List ℕ) (l : ℕ) → v ≡ Err u → l ≡ length (words_of (Err u)) → b' ≡ sets b 0 (words_of (Err u)) → Reported f d s b l b'
   words_put u b b' l e long is =
       let k = told_refused answer u s (sym e ∙ c.answer) in
-      reported f d s (words_of u) b b' l (fault_told f d s u (sym decides ∙ sym k.1) (ap is_done k.1 ∙ k.0)) long is
+      reported f d s (words_of (Err u)) b b' l (fault_told f d s (Err u) (sym decides ∙ k) (err_not_done u)) long is
 
   -- It was taken, and what was read was written.
-  module _ (n m : ℕ) {b b' : List ℕ} {x : Written} (e : v ≡ Sizes n m) (w : CardWritten f d n m a q h r b x b') (b-room : 44 + 1024 * suc d ≤ length b) where
-    read : CardRead f d s a₀ q₀ h₀ r₀ (Sizes n m) a q h r
-    read = subst (λ (y : Card). CardRead f d s a₀ q₀ h₀ r₀ y a q h r) e c
+  module _ (n m : ℕ) {b b' : List ℕ} {x : Result ℕ Refusal} (e : v ≡ Ok (n, m)) (w : CardWritten f d n m a q h r b x b') (b-room : 44 + 1024 * suc d ≤ length b) where
+    read : CardRead f d s a₀ q₀ h₀ r₀ (Ok (n, m)) a q h r
+    read = subst (λ (y : Result (ℕ × ℕ) Refusal). CardRead f d s a₀ q₀ h₀ r₀ y a q h r) e c
 
-    sizes : (is_done answer ≡ true) × (n ≡ states_of s) × (m ≡ observations_of s)
+    sizes : (answer ≡ Ok tt) × (n ≡ states_of s) × (m ≡ observations_of s)
     sizes = told_sizes answer n m s read.answer
 
-    done : card_answer d s ≡ Done
-    done = is_done_lem (card_answer d s) (ap is_done (sym decides) ∙ sizes.0)
+    done : card_answer d s ≡ Ok tt
+    done = sym decides ∙ sizes.0
 
-    pub card_put : (l : ℕ) → 16 ^ d ≡ 2 * top f → x ≡ Length l → Reported f d s b l b'
+    pub card_put : (l : ℕ) → 16 ^ d ≡ 2 * top f → x ≡ Ok l → Reported f d s b l b'
     card_put l wide ex =
-        let z = subst (λ (y : Written). CardWritten f d n m a q h r b y b') ex w in
+        let z = subst (λ (y : Result ℕ Refusal). CardWritten f d n m a q h r b y b') ex w in
         let long = as_long wide read z ∙ sym (card_as_long f d s done) in
         let told = card-told f d s done in
         (omega (arith, long, report_at_most f d s), (long, put_in_front (report_of f d s) b b' l long (omega (arith, report_at_most f d s)) (written_again wide read z ∙ sym told) (past_written z)))
 
     -- The writer refuses none that was read.
-    pub not_refused : (u : Answer) → x ≡ Written.Refused u → 256 ≤ length a → 256 ≤ length q → 256 ≤ length h → 256 ≤ length r → ⊥
+    pub not_refused : (u : Refusal) → x ≡ Err u → 256 ≤ length a → 256 ≤ length q → 256 ≤ length h → 256 ≤ length r → ⊥
     not_refused u ex la lq lh lr =
         true≢false
         (sym (ap is_done (ap₂ (λ (i j : ℕ). write_answer d i j (length a) (length q) (length h) (length r) (length b)) sizes.1 sizes.2 ∙ write_done d s (length a) (length q) (length h) (length r) la lq lh lr done (length b) b-room))
-        ∙ (measured_refused (write_answer d n m (length a) (length q) (length h) (length r) (length b)) u (card_length d n m) (sym ex ∙ w.answer)).0)
+        ∙ ap is_done (measured_refused (write_answer d n m (length a) (length q) (length h) (length r) (length b)) u (card_length d n m) (sym ex ∙ w.answer))
+        ∙ err_not_done u)

@@ -7,9 +7,8 @@ use Prim.Native.Nat.{ℕ, suc, ◌+◌, ◌*◌, ◌≤◌}
 use native.Mathlib.Omega.{arith}
 use lib.ListN.{length, length-map}
 use lib.Ieee.{Format}
-use Rattle.answers.specs.declared.Answer.{Answer}
-use Rattle.answers.specs.declared.Answer.TheVariants.{Done}
-use Rattle.answers.specs.Answers.{is_done}
+use Rattle.std.proofs.Common.{Ok}
+use Rattle.answers.specs.Answers.{is_done, Answer}
 use Rattle.answers.proofs.Kept.{is_done_lem}
 use Rattle.card_text.specs.Card.{a_of, q_of, h_of, r_of, card_answer}
 use Rattle.card_text.specs.Spelling.{card_text, held}
@@ -32,7 +31,7 @@ module _ (f : Format) (d : ℕ) (s : List ℕ) where
   pub always_told : is_done (card_answer d s) ≡ false → 1 ≤ length (report_of f d s)
   always_told r = omega (arith, ap length (fault_told (card_answer d s) refl r), words_some d s (card_answer d s) (given d s) r)
 
-  module _ (done : card_answer d s ≡ Done) where
+  module _ (done : card_answer d s ≡ Ok tt) where
     -- One that is taken comes back as it is written again,
     pub card-told : report_of f d s ≡ card_text d (said_again f (held d s))
     unfolding report_of

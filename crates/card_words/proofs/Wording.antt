@@ -4,16 +4,13 @@ use mathlib.Core.Bool.{Bool, true, false, cond, true≢false}
 use mathlib.Core.List.{List, [], ◌∷◌}
 use Prim.Native.Nat.{ℕ, ◌+◌, ◌≤◌}
 use native.Mathlib.Nat.{zero-add}
-use types.Run.{OneOf, miss}
-use denote.Enum.Declared.{tag_of}
 use lib.Dec.{eqb, lit≤}
 use lib.ListN.{length}
 use lib.Seq.{sets}
 use borrow.Author.Tests.{ne_eqb}
-use Rattle.answers.specs.contracts.Answer.{the_type}
-use Rattle.answers.specs.declared.Answer.{Answer}
-use Rattle.answers.specs.declared.Answer.TheVariants.{Done, Size, Short, Range, Pivot, Line, Edition, NotFinite}
-use Rattle.answers.specs.Answers.{is_done}
+use Rattle.std.proofs.Common.{Ok, Err}
+use Rattle.answers.specs.declared.Refusal.TheVariants.{Size, Short, Range, Pivot, Line, Edition, NotFinite}
+use Rattle.answers.specs.Answers.{is_done, Answer}
 use Rattle.card_text.specs.FirstBad.{CardGiven, bad_line, other_edition, bad_states, bad_observations, right}
 use Rattle.card_words.specs.Words.{bytes_of, line_words, size_words, words_of}
 
@@ -36,18 +33,6 @@ pub other_size : (k : ℕ) → (k ≡ 0 → ⊥) → size_words k ≡ size_words
 unfolding size_words
 other_size k n = rw (ne_eqb k 0 n)
 
--- an answer that is neither a line, nor the edition, nor a size has no words
-pub no_words : (v : Answer) → OneOf (0 ∷ 2 ∷ 3 ∷ 4 ∷ 7 ∷ []) (tag_of the_type v) → words_of v ≡ []
-unfolding words_of
-no_words Done h = refl
-no_words (Size k) h = absurd (miss (0 ∷ 2 ∷ 3 ∷ 4 ∷ 7 ∷ []) 1 tt h)
-no_words (Short k) h = refl
-no_words (Range k) h = refl
-no_words (Pivot k) h = refl
-no_words (Line k) h = absurd (miss (0 ∷ 2 ∷ 3 ∷ 4 ∷ 7 ∷ []) 5 tt h)
-no_words Edition h = absurd (miss (0 ∷ 2 ∷ 3 ∷ 4 ∷ 7 ∷ []) 6 tt h)
-no_words NotFinite h = refl
-
 -- ---- all of them are short
 
 either : (y : Bool) (s t : List ℕ) → length s ≤ 128 → length t ≤ 128 → length (cond y s t) ≤ 128
@@ -56,12 +41,12 @@ either false s t hs ht = ht
 
 pub words_at_most : (v : Answer) → length (words_of v) ≤ 128
 unfolding words_of line_words size_words bytes_of
-words_at_most Done = lit≤ tt
-words_at_most (Size k) = either (eqb k 0) _ _ (lit≤ tt) (lit≤ tt)
-words_at_most (Short k) = lit≤ tt
-words_at_most (Range k) = lit≤ tt
-words_at_most (Pivot k) = lit≤ tt
-words_at_most (Line k) =
+words_at_most (Ok tt) = lit≤ tt
+words_at_most (Err (Size k)) = either (eqb k 0) _ _ (lit≤ tt) (lit≤ tt)
+words_at_most (Err (Short k)) = lit≤ tt
+words_at_most (Err (Range k)) = lit≤ tt
+words_at_most (Err (Pivot k)) = lit≤ tt
+words_at_most (Err (Line k)) =
     either (eqb k 1) _ _ (lit≤ tt)
     (either (eqb k 2) _ _ (lit≤ tt)
     (either (eqb k 3) _ _ (lit≤ tt)
@@ -69,8 +54,8 @@ words_at_most (Line k) =
     (either (eqb k 5) _ _ (lit≤ tt)
     (either (eqb k 6) _ _ (lit≤ tt)
     (either (eqb k 7) _ _ (lit≤ tt) (lit≤ tt)))))))
-words_at_most Edition = lit≤ tt
-words_at_most NotFinite = lit≤ tt
+words_at_most (Err Edition) = lit≤ tt
+words_at_most (Err NotFinite) = lit≤ tt
 
 -- ---- and there are some for every refusal that a card is given
 

@@ -1,10 +1,10 @@
 -- What a fitter is told of a card that is refused (R36): one line of words. Definitions only.
-use Rattle.std.specs.Prelude.{cond, List, [], ◌∷◌, ℕ, eqb}
+use Rattle.std.specs.Prelude.{cond, List, [], ◌∷◌, ℕ, eqb, Ok, Err}
 use Prim.Native.Char.{code}
 use Prim.Native.String as string
 use Prim.Native.String.{String}
-use Rattle.answers.specs.declared.Answer.{Answer}
-use Rattle.answers.specs.declared.Answer.TheVariants.{Done, Size, Short, Range, Pivot, Line, Edition, NotFinite}
+use Rattle.answers.specs.declared.Refusal.TheVariants.{Size, Short, Range, Pivot, Line, Edition, NotFinite}
+use Rattle.answers.specs.Answers.{Answer}
 
 -- the bytes of a text, which has no letter beyond ASCII
 unfoldable pub bytes_of : String → List ℕ
@@ -32,11 +32,11 @@ size_words k = cond (eqb k 0) (bytes_of "line 2: states is not 1 to 16\n") (byte
 -- of each refusal that a card can be given; the others have no words here
 unfoldable pub words_of : Answer → List ℕ
 unfolding bytes_of line_words size_words
-words_of Done = []
-words_of (Size k) = size_words k
-words_of (Short k) = []
-words_of (Range k) = []
-words_of (Pivot k) = []
-words_of (Line k) = line_words k
-words_of Edition = bytes_of "line 1: the edition is not 1\n"
-words_of NotFinite = []
+words_of (Ok tt) = []
+words_of (Err (Size k)) = size_words k
+words_of (Err (Short k)) = []
+words_of (Err (Range k)) = []
+words_of (Err (Pivot k)) = []
+words_of (Err (Line k)) = line_words k
+words_of (Err Edition) = bytes_of "line 1: the edition is not 1\n"
+words_of (Err NotFinite) = []

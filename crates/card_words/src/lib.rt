@@ -9,7 +9,6 @@ ghost use Rattle.std.proofs.lemmas.List.Edits.{sets};
 ghost use Rattle.std.specs.Float.{binary32};
 ghost use Rattle.card_words.specs.Report.{report_of};
 
-use cards::{Card, Written};
 use words::put_words;
 
 // Puts the report on the card into the front of the buffer: how long it is.
@@ -19,19 +18,15 @@ pub fn report(card: &[u8], out: &mut [u8]) -> usize
     ensures long { result ≡ length (report_of binary32 8 card.now) }
     ensures put { out.new ≡ sets out.old 0 (report_of binary32 8 card.now) }
 {
-    let mut space_a = [0.0f32; 256];
-    let mut space_q = [0.0f32; 256];
-    let mut space_h = [0.0f32; 256];
-    let mut space_r = [0.0f32; 256];
-    let a: &mut [f32] = &mut space_a;
-    let q: &mut [f32] = &mut space_q;
-    let h: &mut [f32] = &mut space_h;
-    let r: &mut [f32] = &mut space_r;
-    match cards::read(card, a, q, h, r) {
-        Card::Refused(v) => put_words(out, v),
-        Card::Sizes(n, m) => match cards::write(n, m, a, q, h, r, out) {
-            Written::Length(l) => l,
-            Written::Refused(v) => put_words(out, v),
+    let mut a = [0.0f32; 256];
+    let mut q = [0.0f32; 256];
+    let mut h = [0.0f32; 256];
+    let mut r = [0.0f32; 256];
+    match cards::read(card, &mut a, &mut q, &mut h, &mut r) {
+        Err(why) => put_words(out, why),
+        Ok((n, m)) => match cards::write(n, m, &a, &q, &h, &r, out) {
+            Ok(l) => l,
+            Err(why) => put_words(out, why),
         },
     }
 }

@@ -1,21 +1,22 @@
 // Words for each refusal of a card.
-ghost use Rattle.std.specs.Prelude.{◌≡◌, ◌≤◌, length};
+ghost use Rattle.std.specs.Prelude.{◌≡◌, ◌≤◌, length, Err};
 ghost use Rattle.std.proofs.lemmas.List.Edits.{sets};
 ghost use Rattle.card_words.specs.Words.{line_words, size_words, words_of};
 
-use answers::Answer;
+use answers::Refusal;
 use card_fields::put_bytes;
 
 // Puts the words for the refusal into the front of the buffer: how many bytes they have.
-pub fn put_words(out: &mut [u8], v: Answer) -> usize
+#[tactic(auto, unfolding(crate::specs::Words::words_of, crate::specs::Words::bytes_of))]
+pub fn put_words(out: &mut [u8], why: Refusal) -> usize
     requires { 128 ≤ length out.old }
-    ensures long { result ≡ length (words_of v) }
-    ensures put { out.new ≡ sets out.old 0 (words_of v) }
+    ensures long { result ≡ length (words_of (Err why)) }
+    ensures put { out.new ≡ sets out.old 0 (words_of (Err why)) }
 {
-    match v {
-        Answer::Line(k) => put_line_words(out, k),
-        Answer::Edition => put_bytes(out, 0, b"line 1: the edition is not 1\n"),
-        Answer::Size(k) => put_size_words(out, k),
+    match why {
+        Refusal::Line(k) => put_line_words(out, k),
+        Refusal::Edition => put_bytes(out, 0, b"line 1: the edition is not 1\n"),
+        Refusal::Size(k) => put_size_words(out, k),
         _ => 0,
     }
 }

@@ -1,39 +1,36 @@
 -- Entries put into the front of a buffer, one by one: entry i stands d digits and a byte further on for each entry before it. Assumes nothing.
-use mathlib.Core.Path.{◌≡◌, sym, ap, ◌∙◌, subst}
+use mathlib.Core.Path.{◌≡◌, sym, ap, ◌∙◌}
 use mathlib.Core.Bool.{true}
 use mathlib.Core.List.{List}
-use Prim.Native.Nat.{ℕ, suc, ◌+◌, ◌*◌, ◌≤◌, ◌<◌}
-use native.Mathlib.Nat.{zero-add}
-use native.Mathlib.Numerals.{add-one}
+use Prim.Native.Nat.{ℕ, zero, suc, ◌+◌, ◌*◌, ◌-◌, ◌≤◌, ◌<◌}
+use native.Mathlib.Nat.{zero-mul, suc-mul}
 use native.Mathlib.Omega.{arith}
-use lib.ListN.{length, take, drop, set, length-drop}
-use lib.Seq.{drop-drop}
+use lib.ListN.{length, take, drop, length-drop}
+use lib.Seq.{take_all}
 use lib.Ieee.{Float, Format, of_bits}
-use Rattle.grids.specs.Grid.{run}
 use Rattle.card_text.specs.Values.{are_digits, spelt_from, entries_in}
-use Rattle.card_lines.specs.Places.{fields}
+use Rattle.card_lines.specs.Front.{fields}
 use Rattle.card_lines.proofs.Fields.{entry_there, field_there}
 use Rattle.cards.specs.Read.{floats}
 
-module _ (d : ℕ) (s : List ℕ) (at k i p : ℕ) (h : i < k) (e : p ≡ at + i * suc d) where
-  -- the card from entry i on
-  there : drop (i * suc d) (drop at s) ≡ drop p s
-  there = drop-drop (i * suc d) at s ∙ ap (λ (x : ℕ). drop x s) (sym e)
+-- the part of a text from byte n on
+pub part : (n : ℕ) (t : List ℕ) → take (length t - n) (drop n t) ≡ drop n t
+part n t = take_all (length t - n) (drop n t) (omega (arith, length-drop n t))
 
-  -- it is an entry, and lies within the card
-  pub ready : at ≤ length s → fields d k (drop at s) ≡ true → (p + d ≤ length s) × (are_digits (take d (drop p s)) ≡ true)
-  ready g fs =
-      let r = field_there d k (drop at s) i fs h in
-      (omega (arith, r.1, length-drop at s), subst (λ (t : List ℕ). are_digits (take d t) ≡ true) there r.0)
+-- a text that begins with k entries has as many bytes
+pub all_there : (d k : ℕ) (t : List ℕ) → fields d k t ≡ true → k * suc d ≤ length t
+all_there d zero t fs = rw zero-mul (omega arith)
+all_there d (suc k) t fs = omega (arith, suc-mul k (suc d), (field_there d (suc k) t k fs (omega arith)).1)
 
-  -- the byte behind it too
-  pub behind : at ≤ length s → fields d k (drop at s) ≡ true → p + suc d ≤ length s
-  behind g fs = omega (arith, (field_there d k (drop at s) i fs h).1, length-drop at s)
+module _ (d k : ℕ) (t : List ℕ) (fs : fields d k t ≡ true) (i : ℕ) (h : i < k) where
+  -- so many stand before entry i, and it lies within the text
+  pub before : i * suc d + suc d ≤ length t
+  before = (field_there d k t i fs h).1
 
-  -- one entry more
-  pub filled : (f : Format) (b : ℕ) (x : Float) (l z : List Float) → b ≡ spelt_from 0 (take d (drop p s)) → x ≡ of_bits f b
-      → z ≡ run 0 i (floats f (entries_in d k (drop at s))) l → set z i x ≡ run 0 (i + 1) (floats f (entries_in d k (drop at s))) l
-  unfolding run
-  filled f b x l z eb ex ez =
-      rw (add-one i, zero-add i, ez)
-      (ap (set (run 0 i (floats f (entries_in d k (drop at s))) l) i) (ex ∙ ap (of_bits f) (eb ∙ ap (λ (t : List ℕ). spelt_from 0 (take d t)) (sym there) ∙ sym (entry_there d k (drop at s) i h))))
+  -- the text goes on with entry i
+  pub ready : (d ≤ length (take (length t - i * suc d) (drop (i * suc d) t))) × (are_digits (take d (take (length t - i * suc d) (drop (i * suc d) t))) ≡ true)
+  ready = rw (part (i * suc d) t) (omega (arith, before, length-drop (i * suc d) t), (field_there d k t i fs h).0)
+
+  -- what it says
+  pub says : (f : Format) (b : ℕ) (x : Float) → b ≡ spelt_from 0 (take d (take (length t - i * suc d) (drop (i * suc d) t))) → x ≡ of_bits f b → x ≡ floats f (entries_in d k t) i
+  says f b x is ex = ex ∙ ap (of_bits f) (is ∙ ap (λ (u : List ℕ). spelt_from 0 (take d u)) (part (i * suc d) t) ∙ sym (entry_there d k t i h))

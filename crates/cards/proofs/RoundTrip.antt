@@ -9,9 +9,9 @@ use native.Mathlib.Nat.{zero-add}
 use lib.ListN.{length, get_or, take, drop}
 use lib.Seq.{take_at, drop_at}
 use lib.Ieee.{Float, nan, Format, binary32, binary64, top}
-use Rattle.answers.specs.declared.Answer.{Answer}
-use Rattle.answers.specs.declared.Answer.TheVariants.{Done}
-use Rattle.answers.specs.Answers.{is_done}
+use Rattle.std.specs.Prelude.{Result, Ok}
+use Rattle.answers.specs.declared.Refusal.{Refusal}
+use Rattle.answers.specs.Answers.{is_done, Answer}
 use Rattle.lines.specs.Pattern.{quieted}
 use Rattle.grids.specs.Grid.{run}
 use Rattle.grids.proofs.Grids.{length_run, run-cell, run_ext}
@@ -22,9 +22,6 @@ use Rattle.card_text.proofs.Theorems.{text-taken, text-held, taken-text, taken_s
 use Rattle.card_text.proofs.Length.{sound_length}
 use Rattle.card_text.proofs.Buffers.{right_taken, taken_right}
 use Rattle.card_text.proofs.Said.{patterns-back, said_sound, again, said_same}
-use Rattle.cards.specs.declared.Card.{Card}
-use Rattle.cards.specs.declared.Card.TheVariants.{Sizes}
-use Rattle.cards.specs.declared.Written.TheVariants.{Length}
 use Rattle.cards.specs.Read.{floats, CardRead}
 use Rattle.cards.specs.Written.{write_answer, in_front, CardWritten}
 use Rattle.cards.proofs.Theorems.{told_sizes, measured-length}
@@ -39,11 +36,11 @@ sixteen = refl
 
 -- ---- what was written
 
-module _ {f : Format} {d n m l : ℕ} {a q h r : List Float} {b b' : List ℕ} (w : CardWritten f d n m a q h r b (Length l) b') where
+module _ {f : Format} {d n m l : ℕ} {a q h r : List Float} {b b' : List ℕ} (w : CardWritten f d n m a q h r b (Ok l) b') where
   abbrev v : Answer
   v = write_answer d n m (length a) (length q) (length h) (length r) (length b)
 
-  done : is_done v ≡ true
+  done : v ≡ Ok tt
   done = (measured-length v l (card_length d n m) w.answer).0
 
   -- its length is that of its sizes
@@ -52,7 +49,7 @@ module _ {f : Format} {d n m l : ℕ} {a q h r : List Float} {b b' : List ℕ} (
 
   -- every size and buffer was as it must be
   fits : Fits d n m (length a) (length q) (length h) (length r) (length b)
-  fits = write_fits d n m (length a) (length q) (length h) (length r) (length b) done
+  fits = write_fits d n m (length a) (length q) (length h) (length r) (length b) (ap is_done done)
 
   text_long : length (card_text d (said f n m a q h r)) ≡ l
   text_long = said-length f d n m a q h r b fits ∙ sym written_length
@@ -73,7 +70,7 @@ module _ {f : Format} {d n m l : ℕ} {a q h r : List Float} {b b' : List ℕ} (
     sound = said_sound f d wide n m a q h r fits.states_least fits.states_most fits.observations_least fits.observations_most fits.a fits.q fits.h fits.r fa fq fh fr
 
     -- The reader takes every card that is written ..
-    pub written_taken : card_answer d (take l b') ≡ Done
+    pub written_taken : card_answer d (take l b') ≡ Ok tt
     written_taken = ap (card_answer d) written_text ∙ text-taken d (said f n m a q h r) sound
 
     -- .. and it holds what it was written of.
@@ -81,7 +78,7 @@ module _ {f : Format} {d n m l : ℕ} {a q h r : List Float} {b b' : List ℕ} (
     written_held = ap (held d) written_text ∙ text-held d (said f n m a q h r) sound
 
     -- Read into buffers with room for it, it gives back both sizes, and every number of the four matrices: the same bits, and a NaN as a NaN.
-    module _ {a₀ q₀ h₀ r₀ a' q' h' r' : List Float} {u : Card} (c : CardRead f d (take l b') a₀ q₀ h₀ r₀ u a' q' h' r') (la : n * n ≤ length a₀) (lq : n * n ≤ length q₀) (lh : m * n ≤ length h₀) (lr : m * m ≤ length r₀) where
+    module _ {a₀ q₀ h₀ r₀ a' q' h' r' : List Float} {u : Result (ℕ × ℕ) Refusal} (c : CardRead f d (take l b') a₀ q₀ h₀ r₀ u a' q' h' r') (la : n * n ≤ length a₀) (lq : n * n ≤ length q₀) (lh : m * n ≤ length h₀) (lr : m * m ≤ length r₀) where
       abbrev s : List ℕ
       s = take l b'
 
@@ -91,7 +88,7 @@ module _ {f : Format} {d n m l : ℕ} {a q h r : List Float} {b b' : List ℕ} (
       observations : observations_of s ≡ m
       observations = ap (λ (x : Settings). x.m) written_held
 
-      read_done : read_answer d s (length a₀) (length q₀) (length h₀) (length r₀) ≡ Done
+      read_done : read_answer d s (length a₀) (length q₀) (length h₀) (length r₀) ≡ Ok tt
       read_done = right_taken d s (length a₀) (length q₀) (length h₀) (length r₀) written_taken (rw states la) (rw states lq) (rw (states, observations) lh) (rw observations lr)
 
       -- a matrix of k entries
@@ -101,7 +98,7 @@ module _ {f : Format} {d n m l : ℕ} {a q h r : List Float} {b b' : List ℕ} (
           ∙ ap (λ (e : List ℕ). run 0 k (floats f e) x₀) ee
           ∙ run_ext 0 k (floats f (patterns f k x)) (λ i. get_or x i nan) x₀ (λ i lt. patterns-back f d wide k x fx i lt lx)
 
-      pub comes_back : (u ≡ Sizes n m) × (a' ≡ run 0 (n * n) (λ i. get_or a i nan) a₀) × (q' ≡ run 0 (n * n) (λ i. get_or q i nan) q₀) × (h' ≡ run 0 (m * n) (λ i. get_or h i nan) h₀) × (r' ≡ run 0 (m * m) (λ i. get_or r i nan) r₀)
+      pub comes_back : (u ≡ Ok (n, m)) × (a' ≡ run 0 (n * n) (λ i. get_or a i nan) a₀) × (q' ≡ run 0 (n * n) (λ i. get_or q i nan) q₀) × (h' ≡ run 0 (m * n) (λ i. get_or h i nan) h₀) × (r' ≡ run 0 (m * m) (λ i. get_or r i nan) r₀)
       comes_back = (
         c.answer ∙ rw (read_done, states, observations),
         c.a_after ∙ rw read_done (matrix (n * n) (states_of s * states_of s) (a_of d s) a a₀ (rw states) (ap (λ (x : Settings). x.a) written_held) fa fits.a),
@@ -112,17 +109,17 @@ module _ {f : Format} {d n m l : ℕ} {a q h r : List Float} {b b' : List ℕ} (
 
 -- ---- what was read, and written again
 
-module _ {f : Format} {d n m l : ℕ} {s : List ℕ} {a₀ q₀ h₀ r₀ a q h r : List Float} {b b' : List ℕ} (wide : 16 ^ d ≡ 2 * top f) (c : CardRead f d s a₀ q₀ h₀ r₀ (Sizes n m) a q h r) (written : CardWritten f d n m a q h r b (Length l) b') where
-  read : (is_done (read_answer d s (length a₀) (length q₀) (length h₀) (length r₀)) ≡ true) × (n ≡ states_of s) × (m ≡ observations_of s)
+module _ {f : Format} {d n m l : ℕ} {s : List ℕ} {a₀ q₀ h₀ r₀ a q h r : List Float} {b b' : List ℕ} (wide : 16 ^ d ≡ 2 * top f) (c : CardRead f d s a₀ q₀ h₀ r₀ (Ok (n, m)) a q h r) (written : CardWritten f d n m a q h r b (Ok l) b') where
+  read : (read_answer d s (length a₀) (length q₀) (length h₀) (length r₀) ≡ Ok tt) × (n ≡ states_of s) × (m ≡ observations_of s)
   read = told_sizes (read_answer d s (length a₀) (length q₀) (length h₀) (length r₀)) n m s c.answer
 
   taken : is_done (read_answer d s (length a₀) (length q₀) (length h₀) (length r₀)) ≡ true
-  taken = read.0
+  taken = ap is_done read.0
 
-  w : CardWritten f d (states_of s) (observations_of s) a q h r b (Length l) b'
-  w = subst (λ (y : ℕ). CardWritten f d (states_of s) y a q h r b (Length l) b') read.2 (subst (λ (x : ℕ). CardWritten f d x m a q h r b (Length l) b') read.1 written)
+  w : CardWritten f d (states_of s) (observations_of s) a q h r b (Ok l) b'
+  w = subst (λ (y : ℕ). CardWritten f d (states_of s) y a q h r b (Ok l) b') read.2 (subst (λ (x : ℕ). CardWritten f d x m a q h r b (Ok l) b') read.1 written)
 
-  card_done : card_answer d s ≡ Done
+  card_done : card_answer d s ≡ Ok tt
   card_done = taken_right d s (length a₀) (length q₀) (length h₀) (length r₀) taken
 
   held_sound : Sound d (held d s)

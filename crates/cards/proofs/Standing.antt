@@ -1,74 +1,71 @@
--- Where the matrices of a card stand: behind its key a line that is right has its entries, each with a byte behind it, and then the next line begins.
+-- Where the entries of a line stand: behind its key a line that is right has its entries, each with a byte behind it, and then the next line begins.
 -- Assumes nothing.
-use mathlib.Core.Path.{◌≡◌, sym, ap, ◌∙◌, subst}
+use mathlib.Core.Path.{◌≡◌, refl, sym, ap, ◌∙◌}
 use mathlib.Core.Bool.{true, false, and-eq-true_iff}
 use mathlib.Core.List.{List, ◌∷◌}
-use Prim.Native.Nat.{ℕ, suc, ◌+◌, ◌*◌, ◌≤◌}
+use Prim.Native.Nat.{ℕ, suc, ◌*◌, ◌-◌, ◌≤◌}
 use native.Mathlib.Omega.{arith}
-use lib.ListN.{length, drop, length-append}
-use lib.Seq.{drop-drop}
-use Rattle.card_text.specs.Lines.{newline, ends, first_line, behind_line, behind_lines}
+use lib.ListN.{length, take, drop, length-append}
+use Rattle.card_text.specs.Lines.{newline, ends, first_line, behind_line}
 use Rattle.card_text.specs.Values.{begins, are_entries, entries_in}
 use Rattle.card_text.specs.Card.{keyed, value_of, entries_line, entries_of}
-use Rattle.card_text.proofs.Lines.{cut}
-use Rattle.card_text.proofs.Keys.{first_key, keyed_by, value_by, keyed-begins}
-use Rattle.card_text.proofs.Entries.{entries-length, entries-front}
-use Rattle.card_lines.specs.Places.{next_line, fields}
-use Rattle.card_lines.proofs.Places.{keyed-ends, entries-keyed}
+use Rattle.card_text.proofs.Lines.{cut, behind-behind}
+use Rattle.card_text.proofs.Keys.{begins_is, keyed_by, value_by, keyed-begins}
+use Rattle.card_text.proofs.Entries.{entries-length, entries-front, past}
+use Rattle.card_lines.specs.Front.{fields}
 use Rattle.card_lines.proofs.Fields.{entries-fields}
-use Rattle.card_verdicts.specs.Verdicts.{Here}
-use Rattle.card_verdicts.proofs.Judging.{next_here}
+use Rattle.cards.proofs.Filling.{part}
 
-module _ (s : List ℕ) (p j : ℕ) (here : Here s p j) (d k : ℕ) (key : List ℕ) (plain : ends key ≡ false) (right : entries_line d key k (behind_lines j s) ≡ true) where
-  keyed-line : keyed key (behind_lines j s) ≡ true
-  keyed-line = entries-keyed d k key (behind_lines j s) right
-
-  begun : begins key (behind_lines j s) ≡ true
-  begun = keyed-begins key (behind_lines j s) keyed-line
-
-  ended : ends (drop (length key) (behind_lines j s)) ≡ true
-  ended = sym (keyed_by key (behind_lines j s) plain begun) ∙ keyed-line
-
-  are : are_entries d k (first_line (drop (length key) (behind_lines j s))) ≡ true
+module _ (d k : ℕ) (key t : List ℕ) (plain : ends key ≡ false) (right : entries_line d key k t ≡ true) where
+  keyed-line : keyed key t ≡ true
   unfolding entries_line
-  are =
-      ap (are_entries d k) (sym (value_by key (behind_lines j s) plain begun))
-      ∙ ((and-eq-true_iff (keyed key (behind_lines j s)) (are_entries d k (value_of key (behind_lines j s)))).0 right).1
+  keyed-line = ((and-eq-true_iff (keyed key t) (are_entries d k (value_of key t))).0 right).0
 
-  -- the card from behind the key on, by the position
-  from_key : drop (length key) (behind_lines j s) ≡ drop (p + length key) s
-  from_key = ap (drop (length key)) (sym here.1) ∙ drop-drop (length key) p s
+  begun : begins key t ≡ true
+  begun = keyed-begins key t keyed-line
 
-  pub fields_here : fields d k (drop (p + length key) s) ≡ true
-  fields_here =
-      let v = drop (length key) (behind_lines j s) in
-      ap (fields d k) (sym from_key ∙ cut v ended) ∙ entries-fields d k (first_line v) (behind_line v) are
+  -- the text behind the key
+  abbrev v : List ℕ
+  v = drop (length key) t
 
-  pub says_here : entries_in d k (drop (p + length key) s) ≡ entries_of d key k (behind_lines j s)
+  ended : ends v ≡ true
+  ended = sym (keyed_by key t plain begun) ∙ keyed-line
+
+  are : are_entries d k (first_line v) ≡ true
+  unfolding entries_line
+  are = ap (are_entries d k) (sym (value_by key t plain begun)) ∙ ((and-eq-true_iff (keyed key t) (are_entries d k (value_of key t))).0 right).1
+
+  here : fields d k v ≡ true
+  here = ap (fields d k) (cut v ended) ∙ entries-fields d k (first_line v) (behind_line v) are
+
+  says : entries_in d k v ≡ entries_of d key k t
   unfolding entries_of
-  says_here =
-      let v = drop (length key) (behind_lines j s) in
-      ap (entries_in d k) (sym from_key ∙ cut v ended)
+  says =
+      ap (entries_in d k) (cut v ended)
       ∙ entries-front d k (first_line v) (newline ∷ behind_line v) are
-      ∙ ap (entries_in d k) (sym (value_by key (behind_lines j s) plain begun))
+      ∙ ap (entries_in d k) (sym (value_by key t plain begun))
 
-  next_there : next_line s p ≡ p + length key + k * suc d
-  next_there =
-      let v = drop (length key) (behind_lines j s) in
-      ap (λ (l : List ℕ). p + length (first_line l) + 1) here.1
-      ∙ ap (λ (l : ℕ). p + l + 1) (ap length (first_key key (behind_lines j s) plain begun) ∙ length-append key (first_line v))
-      ∙ sum p (length key) (length (first_line v)) (k * suc d) (entries-length d k (first_line v) are)
-    where
-      sum : (p a l e : ℕ) → suc l ≡ e → p + (a + l) + 1 ≡ p + a + e
-      sum p a l e h = omega arith
+  -- behind the entries the next line begins
+  rest : drop (k * suc d) v ≡ behind_line t
+  rest =
+      ap (λ (n : ℕ). drop n v) (sym (entries-length d k (first_line v) are))
+      ∙ ap (drop (suc (length (first_line v)))) (cut v ended)
+      ∙ past (first_line v) newline (behind_line v) (length (first_line v)) refl
+      ∙ sym (ap behind_line (begins_is key t begun) ∙ behind-behind key v plain)
 
-  line-behind : Here s (p + length key + k * suc d) (suc j)
-  line-behind = subst (λ (q : ℕ). Here s q (suc j)) next_there (next_here s p j here (keyed-ends key (behind_lines j s) keyed-line))
+-- The same of a text u that is t: behind the key lies a part of it, and a text r behind the k entries there is what stands behind the line.
+pub record Stands (d k : ℕ) (key t u : List ℕ) : Type 0 where
+  pub within : length key ≤ length u
+  pub fields_here : fields d k (take (length u - length key) (drop (length key) u)) ≡ true
+  pub says_here : entries_in d k (take (length u - length key) (drop (length key) u)) ≡ entries_of d key k t
+  pub next : (r : List ℕ) → r ≡ drop (k * suc d) (take (length u - length key) (drop (length key) u)) → r ≡ behind_line t
 
-  -- behind the key lies the card
-  pub key_within : p + length key ≤ length s
-  key_within = omega (arith, line-behind.0)
-
-  -- and behind the entries the next line begins
-  pub behind_here : (q : ℕ) → q ≡ p + length key + k * suc d → Here s q (suc j)
-  behind_here q e = subst (λ (x : ℕ). Here s x (suc j)) (sym e) line-behind
+pub stands : (d k : ℕ) (key t : List ℕ) → ends key ≡ false → entries_line d key k t ≡ true → (u : List ℕ) → u ≡ t → Stands d k key t u
+stands d k key t plain right u e =
+    let p : take (length u - length key) (drop (length key) u) ≡ drop (length key) t = part (length key) u ∙ ap (drop (length key)) e in
+    record {
+      within = rw e (omega (arith, ap length (begins_is key t (begun d k key t plain right)), length-append key (drop (length key) t)));
+      fields_here = ap (fields d k) p ∙ here d k key t plain right;
+      says_here = ap (entries_in d k) p ∙ says d k key t plain right;
+      next = λ r h. h ∙ ap (drop (k * suc d)) p ∙ rest d k key t plain right;
+    }

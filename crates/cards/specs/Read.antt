@@ -1,24 +1,23 @@
 -- What the reader of cards promises (R6, R34): the answer, and every number of each lent buffer afterwards. Definitions only.
-use Rattle.std.specs.Prelude.{◌≡◌, cond, List, ℕ, ◌*◌, length, get_or, Float}
+use Rattle.std.specs.Prelude.{◌≡◌, List, ℕ, ◌*◌, length, get_or, Float, Result, Ok, Err}
 use Rattle.std.specs.Float.{Format}
 use Rattle.std.specs.Float.Ieee.{of_bits}
-use Rattle.answers.specs.declared.Answer.{Answer}
-use Rattle.answers.specs.Answers.{is_done, settled}
+use Rattle.answers.specs.declared.Refusal.{Refusal}
+use Rattle.answers.specs.Answers.{settled, Answer}
 use Rattle.grids.specs.Grid.{run}
 use Rattle.card_text.specs.Card.{states_of, observations_of, read_answer, a_of, q_of, h_of, r_of}
-use Rattle.cards.specs.declared.Card.{Card}
-use Rattle.cards.specs.declared.Card.TheVariants.{Sizes, Refused}
 
--- what reading says of a card that is answered with v: both sizes where that is done, and else v
-abbrev pub told : Answer → List ℕ → Card
-told v s = cond (is_done v) (Sizes (states_of s) (observations_of s)) (Refused v)
+-- what reading says of a card, by what the card is answered with: both sizes where that is done, and else why it is refused
+abbrev pub told : Answer → List ℕ → Result (ℕ × ℕ) Refusal
+told (Ok u) s = Ok (states_of s, observations_of s)
+told (Err v) s = Err v
 
 -- number i of a matrix whose entries have these patterns; any pattern of a NaN is a NaN
 abbrev pub floats : Format → List ℕ → ℕ → Float
 floats f es i = of_bits f (get_or es i 0)
 
 -- the reading of the card s, with entries of d digits, into buffers that held a, q, h and r
-pub record CardRead (f : Format) (d : ℕ) (s : List ℕ) (a q h r : List Float) (v : Card) (a' q' h' r' : List Float) : Type 0 where
+pub record CardRead (f : Format) (d : ℕ) (s : List ℕ) (a q h r : List Float) (v : Result (ℕ × ℕ) Refusal) (a' q' h' r' : List Float) : Type 0 where
   pub answer : v ≡ told (read_answer d s (length a) (length q) (length h) (length r)) s
   pub a_after : a' ≡ settled (read_answer d s (length a) (length q) (length h) (length r)) (run 0 (states_of s * states_of s) (floats f (a_of d s)) a) a
   pub q_after : q' ≡ settled (read_answer d s (length a) (length q) (length h) (length r)) (run 0 (states_of s * states_of s) (floats f (q_of d s)) q) q

@@ -10,51 +10,32 @@ ghost use Rattle.cards.specs.Read.{CardRead};
 ghost use Rattle.cards.specs.Written.{sizes_answer, measured, CardWritten};
 ghost use Rattle.cards.specs.Steps.{room_answer};
 
-use answers::Answer;
+use answers::{Answer, Refusal};
 use card_spelling::put_card;
-use card_verdicts::{Verdict, judge};
+use card_verdicts::judge;
 use matrices::fill_all;
 
-// What reading a card says.
-#[derive(Clone, Copy)]
-pub enum Card {
-    // It is taken: how many states and how many observations it has.
-    Sizes(usize, usize),
-    // It is refused, and no buffer is changed.
-    Refused(Answer),
-}
-
-// What writing a card says.
-#[derive(Clone, Copy)]
-pub enum Written {
-    // It is written: how many bytes it has.
-    Length(usize),
-    // It is refused, and no byte is changed.
-    Refused(Answer),
-}
-
-// Reads the card: its matrices stand in the front of the four buffers, and both sizes come back. Or it
-// is refused, by its first wrong line or, where the whole card is right, by its first short buffer.
-pub fn read(card: &[u8], a: &mut [f32], q: &mut [f32], h: &mut [f32], r: &mut [f32]) -> Card
+// Reads the card: its matrices stand in the front of the four buffers, and how many states and
+// observations it has comes back. Or it is refused, by its first wrong line or, where the whole card is
+// right, by its first short buffer; then no buffer is changed.
+pub fn read(
+    card: &[u8],
+    a: &mut [f32],
+    q: &mut [f32],
+    h: &mut [f32],
+    r: &mut [f32],
+) -> Result<(usize, usize), Refusal>
     ensures { CardRead binary32 8 card.now a.old q.old h.old r.old result a.new q.new h.new r.new }
 {
-    match judge(card) {
-        Verdict::Refused(v) => Card::Refused(v),
-        Verdict::Taken(n, m, at) => {
-            let v = room(n, m, a.len(), q.len(), h.len(), r.len());
-            if answers::is_done(v) {
-                fill_all(card, at, n, m, a, q, h, r);
-                Card::Sizes(n, m)
-            } else {
-                Card::Refused(v)
-            }
-        }
-    }
+    let (n, m, rest) = judge(card)?;
+    room(n, m, a.len(), q.len(), h.len(), r.len())?;
+    fill_all(rest, n, m, a, q, h, r);
+    Ok((n, m))
 }
 
 // Writes the card of n states, m observations and the four matrices into the front of the bytes: how
 // long it is comes back. Or it is refused, by its first size that is not 1 to 16, or by its first
-// short buffer, of which the bytes are the last.
+// short buffer, of which the bytes are the last; then no byte is changed.
 pub fn write(
     n: usize,
     m: usize,
@@ -63,35 +44,23 @@ pub fn write(
     h: &[f32],
     r: &[f32],
     card: &mut [u8],
-) -> Written
+) -> Result<usize, Refusal>
     ensures { CardWritten binary32 8 n m a.now q.now h.now r.now card.old result card.new }
 {
-    match length_of(n, m) {
-        Written::Refused(v) => Written::Refused(v),
-        Written::Length(l) => {
-            let matrices = room(n, m, a.len(), q.len(), h.len(), r.len());
-            let all = answers::then_buffer(matrices, 4, l, card.len());
-            if answers::is_done(all) {
-                put_card(card, n, m, &*a, &*q, &*h, &*r);
-                Written::Length(l)
-            } else {
-                Written::Refused(all)
-            }
-        }
-    }
+    let l = length_of(n, m)?;
+    let matrices = room(n, m, a.len(), q.len(), h.len(), r.len());
+    answers::then_buffer(matrices, 4, l, card.len())?;
+    put_card(card, n, m, &*a, &*q, &*h, &*r);
+    Ok(l)
 }
 
 // How many bytes the card of n states and m observations has. Or refusal 1.
-pub fn length_of(n: usize, m: usize) -> Written
+pub fn length_of(n: usize, m: usize) -> Result<usize, Refusal>
     ensures { result ≡ measured (sizes_answer n m) (card_length 8 n m) }
 {
-    let states = answers::then_size(Answer::Done, 0, n);
-    let v = answers::then_size(states, 1, m);
-    if answers::is_done(v) {
-        Written::Length(bytes_of(n, m))
-    } else {
-        Written::Refused(v)
-    }
+    let states = answers::then_size(Ok(()), 0, n);
+    answers::then_size(states, 1, m)?;
+    Ok(bytes_of(n, m))
 }
 
 // The same of sizes that are taken.
@@ -114,7 +83,7 @@ fn digits_of(n: usize) -> usize
 fn room(n: usize, m: usize, la: usize, lq: usize, lh: usize, lr: usize) -> Answer
     ensures { result ≡ room_answer n m la lq lh lr }
 {
-    let a = answers::then_matrix(Answer::Done, 0, n, n, la);
+    let a = answers::then_matrix(Ok(()), 0, n, n, la);
     let q = answers::then_matrix(a, 1, n, n, lq);
     let h = answers::then_matrix(q, 2, m, n, lh);
     answers::then_matrix(h, 3, m, m, lr)

@@ -9,34 +9,26 @@ pub fn fill_cells(n: usize, m: &mut [f32], x: f32)
     requires { n ≤ length m.old }
     ensures { m.new ≡ run 0 n (λ i. x) m.old }
 {
-    let mut i: usize = 0;
-    while i < n {
-        m[i] = x;
-        i += 1;
-    }
+    m[..n].fill(x);
 }
 
 // The first n cells of from in the first n cells of to.
+#[tactic(auto, using(grids::proofs::Fronts::front_copied))]
 pub fn copy_cells(n: usize, from: &[f32], to: &mut [f32])
     requires { (n ≤ length from.now) × (n ≤ length to.old) }
     ensures { to.new ≡ run 0 n (λ i. get_or from.now i nan) to.old }
 {
-    let mut i: usize = 0;
-    while i < n {
-        to[i] = from[i];
-        i += 1;
-    }
+    to[..n].copy_from_slice(&from[..n]);
 }
 
 // A column of a rows by cols matrix in the first rows cells of to.
+#[tactic(auto, using(grids::proofs::Grids::run_none, grids::proofs::Grids::run_more))]
 pub fn copy_column(rows: usize, cols: usize, from: &[f32], column: usize, to: &mut [f32])
     requires { (column < cols) × (rows * cols ≤ length from.now) × (rows ≤ length to.old) }
     ensures { to.new ≡ run 0 rows (λ r. cell cols from.now r column) to.old }
 {
-    let mut r: usize = 0;
-    while r < rows {
+    for r in 0..rows {
         to[r] = from[r * cols + column];
-        r += 1;
     }
 }
 
@@ -45,9 +37,7 @@ pub fn fill_diagonal(n: usize, m: &mut [f32], x: f32)
     requires { n * n ≤ length m.old }
     ensures { m.new ≡ grid n n (diagonal x (cell n m.old)) m.old }
 {
-    let mut i: usize = 0;
-    while i < n {
+    for i in 0..n {
         m[i * n + i] = x;
-        i += 1;
     }
 }

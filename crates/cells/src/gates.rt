@@ -9,7 +9,7 @@ use answers::Answer;
 pub fn matrix(rows: usize, cols: usize, len: usize) -> Answer
     ensures { result ≡ matrix_answer rows cols len }
 {
-    let sizes = answers::then_size(answers::then_size(Answer::Done, 0, rows), 1, cols);
+    let sizes = answers::then_size(answers::then_size(Ok(()), 0, rows), 1, cols);
     answers::then_matrix(sizes, 0, rows, cols, len)
 }
 
@@ -24,7 +24,7 @@ pub fn pair(rows: usize, cols: usize, la: usize, lb: usize) -> Answer
 pub fn square(n: usize, len: usize) -> Answer
     ensures { result ≡ square_answer n len }
 {
-    answers::then_matrix(answers::then_size(Answer::Done, 0, n), 0, n, n, len)
+    answers::then_matrix(answers::then_size(Ok(()), 0, n), 0, n, n, len)
 }
 
 // The answer for the cell (row, column) of a rows by cols matrix.

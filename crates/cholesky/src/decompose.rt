@@ -3,7 +3,7 @@ ghost use Rattle.std.specs.Float.{binary32};
 ghost use Rattle.factors.specs.Decomposed.{Decomposed};
 
 use crate::cores;
-use answers::Answer;
+use answers::{Answer, Refusal};
 use row_major::gates;
 
 // t, an n by n matrix of which the diagonal and what lies above it are read, becomes its lower factor;
@@ -11,12 +11,10 @@ use row_major::gates;
 pub fn cholesky_decompose_lower(n: usize, t: &mut [f32]) -> Answer
     ensures { Decomposed binary32 n t.old result t.new }
 {
-    let v = gates::square(n, t.len());
-    if answers::is_done(v) {
-        let i = cores::decompose_cells(n, t);
-        if i < n {
-            return Answer::Pivot(i);
-        }
+    gates::square(n, t.len())?;
+    let i = cores::decompose_cells(n, t);
+    if i < n {
+        return Err(Refusal::Pivot(i));
     }
-    v
+    Ok(())
 }

@@ -9,10 +9,8 @@ fn clear_column(n: usize, i: usize, t: &mut [f32])
     requires { (i < n) × (n * n ≤ length t.old) }
     ensures { t.new ≡ grid n n (clear_column (cell n t.old) i) t.old }
 {
-    let mut j: usize = 0;
-    while j < i {
+    for j in 0..i {
         t[j * n + i] = 0.0;
-        j += 1;
     }
 }
 
@@ -21,9 +19,7 @@ pub fn clear_upper(n: usize, t: &mut [f32])
     requires { n * n ≤ length t.old }
     ensures { t.new ≡ grid n n (lower (cell n t.old)) t.old }
 {
-    let mut i: usize = 0;
-    while i < n {
+    for i in 0..n {
         clear_column(n, i, t);
-        i += 1;
     }
 }

@@ -19,14 +19,6 @@ use Rattle.pivots.specs.Pivots.{pivot_of}
 use Rattle.pivots.proofs.Cases.{accepted_is, refused_is}
 use Rattle.columns.specs.Steps.{stored}
 
--- ---- the case of a pivot
-
--- the step on the computed sum s, its case taken apart by a match, is the step on the definition's sum
-pub told : (f : Format) (s x : Float) (v w : Pivot) → w ≡ v → w ≡ pivot_of f s → s ≡ x → v ≡ pivot_of f x
-told f s x v w a b e = cc
-
--- ---- a column more
-
 module _ (f : Format) (n : ℕ) (l : List Float) (i : ℕ) (hi : i < n) (fits : n * n ≤ length l) (z : List Float) (q : z ≡ grid n n (factor f (cell n l) i) l) where
   -- the pivot that the buffer gives is the definition's
   pivot_same : remains f (cell n z) i i ≡ pivot_at f (cell n l) i

@@ -18,10 +18,8 @@ fn less_dot(start: f32, a: &[f32], b: &[f32], n: usize) -> f32
     ensures { result ≡ less_dot binary32 start (λ k. get_or a.now k nan) (λ k. get_or b.now k nan) n }
 {
     let mut sum = start;
-    let mut k: usize = 0;
-    while k < n {
+    for k in 0..n {
         sum = sum - a[k] * b[k];
-        k += 1;
     }
     sum
 }
@@ -41,11 +39,9 @@ fn fill_below(n: usize, i: usize, d: f32, t: &mut [f32])
     requires { (i < n) × (n * n ≤ length t.old) }
     ensures { t.new ≡ grid n n (below binary32 (cell n t.old) i d) t.old }
 {
-    let mut j = i + 1;
-    while j < n {
+    for j in i + 1..n {
         let sum = rest_at(n, t, i, j);
         t[j * n + i] = sum * d;
-        j += 1;
     }
 }
 
@@ -76,13 +72,11 @@ pub fn fill_columns(n: usize, t: &mut [f32]) -> usize
     ensures after { t.new ≡ grid n n (swept binary32 n (cell n t.old)) t.old }
 {
     let mut d: f32 = 0.0;
-    let mut i: usize = 0;
-    while i < n {
+    for i in 0..n {
         let Pivot::Accepted(_, q) = fill_column(n, i, d, t) else {
             return i;
         };
         d = q;
-        i += 1;
     }
-    i
+    n
 }

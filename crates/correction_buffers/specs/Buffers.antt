@@ -3,7 +3,7 @@ use Rattle.std.specs.Prelude.{◌≡◌, ◌≤◌, length, take}
 use Rattle.lists.specs.declared.call.Lent.{Lent}
 use Rattle.correction_buffers.specs.declared.Buffers.{Buffers}
 
--- a buffer has the numbers that its length says, which lending `&mut cells[..len]` asks in both forms
+-- a buffer has the numbers that its length says; the second half says it of those that are handed out
 abbrev pub Holds : Lent → Type 0
 Holds l = (l.len ≤ length l.cells) × (l.len ≡ length (take l.len l.cells))
 

@@ -3,7 +3,6 @@
 
 ghost use Rattle.correction_buffers.specs.Buffers.{Fit};
 
-use answers::Answer;
 use lists::{Lent, Seen, lend, seen};
 
 // The twelve buffers of a correction; of an update, which takes no z, that one is none.
@@ -23,22 +22,8 @@ pub struct Buffers {
     pub khp: Lent,
 }
 
-// What the call answered, and the cells of the buffers that it may have written.
-#[derive(Clone, Copy)]
-pub struct Done {
-    pub v: Answer,
-    pub x: [f32; 304],
-    pub p: [f32; 304],
-    pub y: [f32; 304],
-    pub s: [f32; 304],
-    pub k: [f32; 304],
-    pub inverse: [f32; 304],
-    pub hp: [f32; 304],
-    pub pht: [f32; 304],
-    pub khp: [f32; 304],
-}
-
-// The buffers whose words begin at a position: each is as long as its length says.
+// The buffers whose words begin at a position: each is as long as its length says. An update's line has no
+// z, and `with_z` says which of the two lines it is.
 pub fn read(t: &[u8], at: usize, with_z: bool) -> Buffers
     ensures { Fit result }
 {
@@ -55,53 +40,42 @@ pub fn read(t: &[u8], at: usize, with_z: bool) -> Buffers
     let pht = lend(t, hp.next, true);
     let khp = lend(t, pht.next, true);
     Buffers {
-        x: x,
-        p: p,
-        h: h,
-        z: z,
-        r: r,
-        y: y,
-        s: s,
-        k: k,
-        inverse: inverse,
-        hp: hp,
-        pht: pht,
-        khp: khp,
+        x,
+        p,
+        h,
+        z,
+        r,
+        y,
+        s,
+        k,
+        inverse,
+        hp,
+        pht,
+        khp,
     }
 }
 
-// A buffer's number on the line, from its number with z: one less where z, the fourth, is left out.
-fn place(number: usize, with_z: bool) -> usize {
+// All buffers after the call against the next words; without z those behind it stand one place earlier.
+pub fn compared(t: &[u8], o: Seen, b: &Buffers, with_z: bool) -> Seen {
+    let all = [
+        b.x.numbers(),
+        b.p.numbers(),
+        b.h.numbers(),
+        b.z.numbers(),
+        b.r.numbers(),
+        b.y.numbers(),
+        b.s.numbers(),
+        b.k.numbers(),
+        b.inverse.numbers(),
+        b.hp.numbers(),
+        b.pht.numbers(),
+        b.khp.numbers(),
+    ];
     if with_z {
-        return number;
+        return seen::buffers_met(t, o, &all);
     }
-    if number < 4 { number } else { number - 1 }
-}
-
-// All buffers after the call against the next words.
-pub fn compared(t: &[u8], o: Seen, b: Buffers, d: Done, with_z: bool) -> Seen {
-    let x = d.x;
-    let p = d.p;
-    let h = b.h.cells;
-    let z = b.z.cells;
-    let r = b.r.cells;
-    let y = d.y;
-    let s = d.s;
-    let k = d.k;
-    let inverse = d.inverse;
-    let hp = d.hp;
-    let pht = d.pht;
-    let khp = d.khp;
-    let o1 = seen::buffer_met(t, o, 0, &x, b.x.len, true);
-    let o2 = seen::buffer_met(t, o1, 1, &p, b.p.len, true);
-    let o3 = seen::buffer_met(t, o2, 2, &h, b.h.len, true);
-    let o4 = seen::buffer_met(t, o3, 3, &z, b.z.len, with_z);
-    let o5 = seen::buffer_met(t, o4, place(4, with_z), &r, b.r.len, true);
-    let o6 = seen::buffer_met(t, o5, place(5, with_z), &y, b.y.len, true);
-    let o7 = seen::buffer_met(t, o6, place(6, with_z), &s, b.s.len, true);
-    let o8 = seen::buffer_met(t, o7, place(7, with_z), &k, b.k.len, true);
-    let o9 = seen::buffer_met(t, o8, place(8, with_z), &inverse, b.inverse.len, true);
-    let o10 = seen::buffer_met(t, o9, place(9, with_z), &hp, b.hp.len, true);
-    let o11 = seen::buffer_met(t, o10, place(10, with_z), &pht, b.pht.len, true);
-    seen::buffer_met(t, o11, place(11, with_z), &khp, b.khp.len, true)
+    let mut without = [all[0]; 11];
+    without[1..3].copy_from_slice(&all[1..3]);
+    without[3..].copy_from_slice(&all[4..]);
+    seen::buffers_met(t, o, &without)
 }

@@ -1,39 +1,39 @@
 // What the program writes. An error is one that a write gave.
 ghost use Rattle.std.specs.Prelude.{◌≡◌};
 
-use answers::Answer;
+use answers::{Answer, Refusal};
 use figures::{gap, number, plain, right, text, whole};
 use one_state::OneState;
 use shift::{Step, Tally};
 use std::io;
-use wire::{Outcome, Reading};
+use wire::{Measured, Outcome, Reading};
 
 // The tension that was read, or a dash.
 fn reading(rt: &impl Print, g: Reading) -> io::Result<()> {
     match g {
-        Reading::Arrived(z, _) => {
-            if z != z {
+        Some(Measured { z, .. }) => {
+            if z.is_nan() {
                 text(rt, b"     NaN")
-            } else if z == 1.0 / 0.0 {
+            } else if z == f32::INFINITY {
                 text(rt, b"     inf")
             } else {
                 number(rt, z)
             }
         }
-        Reading::Lost => text(rt, b"       -"),
+        None => text(rt, b"       -"),
     }
 }
 
 // What the correction answered, in the fitter's words.
 fn answer(rt: &impl Print, v: Answer) -> io::Result<()> {
     match v {
-        Answer::Done => text(rt, b"taken"),
-        Answer::Pivot(i) => {
+        Ok(()) => text(rt, b"taken"),
+        Err(Refusal::Pivot(i)) => {
             text(rt, b"refused: pivot ")?;
             whole(rt, i as u64)?;
             text(rt, b", estimate kept")
         }
-        Answer::NotFinite => text(rt, b"refused: result not finite, estimate kept"),
+        Err(Refusal::NotFinite) => text(rt, b"refused: result not finite, estimate kept"),
         _ => text(rt, b"refused, estimate kept"),
     }
 }
@@ -41,21 +41,21 @@ fn answer(rt: &impl Print, v: Answer) -> io::Result<()> {
 // What became of the reading.
 fn outcome(rt: &impl Print, o: Outcome) -> io::Result<()> {
     match o {
-        Outcome::NoReading => text(rt, b"no reading, predicted only"),
-        Outcome::Answered(v) => answer(rt, v),
+        None => text(rt, b"no reading, predicted only"),
+        Some(v) => answer(rt, v),
     }
 }
 
 // Behind the answer: that the reading or its noise is not a number, or infinite.
 fn remark(rt: &impl Print, g: Reading) -> io::Result<()> {
-    if let Reading::Arrived(z, r) = g {
-        if z != z {
+    if let Some(Measured { z, r }) = g {
+        if z.is_nan() {
             text(rt, b" (the reading is not a number)")?;
-        } else if z == 1.0 / 0.0 {
+        } else if z == f32::INFINITY {
             text(rt, b" (the reading is infinite)")?;
-        } else if r != r {
+        } else if r.is_nan() {
             text(rt, b" (R is not a number)")?;
-        } else if r == 1.0 / 0.0 {
+        } else if r == f32::INFINITY {
             text(rt, b" (R is infinite)")?;
         }
     }
@@ -96,13 +96,10 @@ pub fn line(rt: &impl Print, n: u64, g: Reading, s: Step) -> io::Result<()> {
 pub fn foot(rt: &impl Print, t: Tally) -> io::Result<()>
     requires { t.before ≡ t.after }
 {
-    text(rt, b"\n")?;
-    whole(rt, t.taken)?;
-    text(rt, b" readings taken, ")?;
-    whole(rt, t.refused)?;
-    text(rt, b" refused, ")?;
-    whole(rt, t.lost)?;
-    text(rt, b" lost on the wire.\n")?;
+    let taken = t.taken;
+    let refused = t.refused;
+    let lost = t.lost;
+    println!(rt; "\n{taken} readings taken, {refused} refused, {lost} lost on the wire.")?;
     if 0 < t.refused {
         text(rt, b"A refusal changes nothing: the estimate was ")?;
         plain(rt, t.before)?;
@@ -125,9 +122,8 @@ pub fn yarn_head(rt: &impl Print) -> io::Result<()> {
 // What the operator is told once three readings or more in a row were refused.
 fn alarm(rt: &impl Print, yarn: OneState) -> io::Result<()> {
     if 2 < yarn.blind {
-        text(rt, b", blind for ")?;
-        whole(rt, yarn.blind as u64)?;
-        text(rt, b" readings")?;
+        let blind = yarn.blind;
+        print!(rt; ", blind for {blind} readings")?;
     }
     Ok(())
 }
@@ -147,7 +143,6 @@ pub fn yarn_line(rt: &impl Print, n: u64, g: Reading, s: yarn_shift::Step) -> io
 
 // For how many readings the yarn has been blind at the end.
 pub fn yarn_foot(rt: &impl Print, yarn: OneState) -> io::Result<()> {
-    text(rt, b"\nBlind for ")?;
-    whole(rt, yarn.blind as u64)?;
-    text(rt, b" readings at the end.\n")
+    let blind = yarn.blind;
+    println!(rt; "\nBlind for {blind} readings at the end.")
 }

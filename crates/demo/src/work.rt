@@ -21,14 +21,12 @@ pub fn run(rt: &impl Print) -> io::Result<Tally>
         before: 0.0,
         after: 0.0,
     };
-    let mut i: usize = 0;
-    while i < shift::STEPS {
+    for i in 0..shift::STEPS {
         let g = shift::arriving(i);
         let s = shift::advance(f, g);
         table::line(rt, i as u64 + 1, g, s)?;
         t = t.count(s);
         f = s.after;
-        i += 1;
     }
     Ok(t)
 }
@@ -38,13 +36,11 @@ pub fn watch(rt: &impl Print) -> io::Result<OneState>
     ensures { IfOk result (λ yarn. yarn ≡ watched 10) }
 {
     let mut yarn = yarn_shift::start();
-    let mut i: usize = 0;
-    while i < yarn_shift::STEPS {
+    for i in 0..yarn_shift::STEPS {
         let g = yarn_shift::arriving(i);
         let s = yarn_shift::advance(yarn, g);
         table::yarn_line(rt, i as u64 + 1, g, s)?;
         yarn = s.after;
-        i += 1;
     }
     Ok(yarn)
 }

@@ -5,8 +5,7 @@ use mathlib.Core.Bool.{true}
 use mathlib.Core.List.{List}
 use Prim.Native.Nat.{ℕ, ◌<◌}
 use lib.Ieee.{Float, Format, mul}
-use Rattle.answers.specs.declared.Answer.{Answer}
-use Rattle.answers.specs.Answers.{is_done, settled}
+use Rattle.answers.specs.Answers.{is_done, settled, Answer}
 use Rattle.numbers.specs.Sums.{plus0, products}
 use Rattle.numbers.proofs.Sums.{sum_same}
 use Rattle.grids.specs.Grid.{cell, grid}

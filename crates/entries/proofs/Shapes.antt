@@ -4,8 +4,7 @@ use mathlib.Core.Bool.{Bool, true}
 use mathlib.Core.List.{[], ◌∷◌}
 use Prim.Native.Nat.{ℕ, ◌*◌, ◌≤◌, ◌<◌}
 use native.Mathlib.Nat.{mul_comm}
-use Rattle.answers.specs.declared.Answer.{Answer}
-use Rattle.answers.specs.Answers.{is_done, first_of}
+use Rattle.answers.specs.Answers.{is_done, first_of, Answer}
 use Rattle.answers.specs.Tests.{buffer_test, lent, call_answer}
 use Rattle.answers.proofs.Fit.{fit}
 use Rattle.answers.proofs.Kept.{accepted}

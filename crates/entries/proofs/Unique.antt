@@ -3,7 +3,7 @@ use mathlib.Core.Path.{◌≡◌}
 use mathlib.Core.List.{List}
 use Prim.Native.Nat.{ℕ}
 use lib.Ieee.{Float, Format}
-use Rattle.answers.specs.declared.Answer.{Answer}
+use Rattle.answers.specs.Answers.{Answer}
 use Rattle.entries.specs.Products.{Multiplied, Buffered, MultipliedT, AddedT, ScaledT, RowMultiplied, RowAdded}
 
 module _ (f : Format) (rows inner cols : ℕ) (a b c : List Float) {v w : Answer} {c' c'' : List Float} where

@@ -1,6 +1,6 @@
 -- Which refusal a call of a product or a sum gets: sizes as rows, inner, columns; buffers as left, right, destination, auxiliary. Definitions only.
 use Rattle.std.specs.Prelude.{[], ◌∷◌, ℕ, ◌*◌}
-use Rattle.answers.specs.declared.Answer.{Answer}
+use Rattle.answers.specs.Answers.{Answer}
 use Rattle.answers.specs.Tests.{lent, call_answer}
 
 -- a of rows by inner, b of inner by cols, c of rows by cols

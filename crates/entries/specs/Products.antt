@@ -2,8 +2,7 @@
 use Rattle.std.specs.Prelude.{◌≡◌, ℕ, List, length, get_or, Float}
 use Rattle.std.specs.Float.{Format, nan}
 use Rattle.std.specs.Float.Ieee.{add, mul}
-use Rattle.answers.specs.declared.Answer.{Answer}
-use Rattle.answers.specs.Answers.{settled}
+use Rattle.answers.specs.Answers.{settled, Answer}
 use Rattle.grids.specs.Grid.{cell, run, grid}
 use Rattle.entries.specs.Entries.{product, product_t, row_product}
 use Rattle.entries.specs.Answers.{product_answer, buffered_answer, transposed_answer, row_answer}

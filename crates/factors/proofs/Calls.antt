@@ -8,9 +8,9 @@ use borrow.Author.Tests.{lt-ltb, le-ltb}
 use lib.Dec.{ltb}
 use lib.ListN.{length}
 use lib.Ieee.{Float, Format}
-use Rattle.answers.specs.declared.Answer.{Answer}
-use Rattle.answers.specs.declared.Answer.TheVariants.{Done, Pivot}
-use Rattle.answers.specs.Answers.{number_of, is_done, first_of, settled}
+use Rattle.std.proofs.Common.{Ok, Err}
+use Rattle.answers.specs.declared.Refusal.TheVariants.{Pivot}
+use Rattle.answers.specs.Answers.{number_of, is_done, first_of, settled, Answer}
 use Rattle.answers.specs.Tests.{lent}
 use Rattle.answers.proofs.Fit.{fit}
 use Rattle.answers.proofs.Kept.{is_done_lem}
@@ -20,7 +20,7 @@ use Rattle.factors.specs.Decomposition.{reached, decomposed}
 use Rattle.factors.specs.Decomposed.{pivot_answer, Decomposed}
 
 -- the pivots alone are told by 4 or by done
-pivot_number : (i : ℕ) (b : Bool) → 1 ≤ number_of (cond b (Pivot i) Done) → number_of (cond b (Pivot i) Done) ≤ 3 → ⊥
+pivot_number : (i : ℕ) (b : Bool) → 1 ≤ number_of (cond b (Err (Pivot i)) (Ok tt)) → number_of (cond b (Err (Pivot i)) (Ok tt)) ≤ 3 → ⊥
 pivot_number i true l h = omega arith
 pivot_number i false l h = omega arith
 
@@ -54,7 +54,7 @@ module _ (f : Format) (n : ℕ) (t : List Float) where
     answered = rw (done, index)
 
     -- refused with 4 at the pivot i
-    pub refused_late : i < n → Decomposed f n t (Pivot i) t'
+    pub refused_late : i < n → Decomposed f n t (Err (Pivot i)) t'
     refused_late h = record { answer = sym (simp (lt-ltb i n h)) ∙ answered; after = renewed }
 
     -- every pivot is taken

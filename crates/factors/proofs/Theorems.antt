@@ -11,9 +11,9 @@ use lib.ListN.{length}
 use lib.Ieee.{Float, Format, fits}
 use lib.Ieee.Scale.{finite}
 use lib.Ieee.Positive.{positive}
-use Rattle.answers.specs.declared.Answer.{Answer}
-use Rattle.answers.specs.declared.Answer.TheVariants.{Done, Pivot}
-use Rattle.answers.specs.Answers.{number_of, is_done}
+use Rattle.std.proofs.Common.{Ok, Err}
+use Rattle.answers.specs.declared.Refusal.TheVariants.{Pivot}
+use Rattle.answers.specs.Answers.{number_of, is_done, Answer}
 use Rattle.numbers.specs.Reciprocal.{recip_of}
 use Rattle.numbers.specs.Root.{sqrt_of}
 use Rattle.grids.specs.Cells.{square_answer}
@@ -45,23 +45,23 @@ module _ (f : Format) (n : ℕ) (t : List Float) (v : Answer) (t' : List Float) 
       ap (λ (l : List Float). cell n l r c) renewed ∙ grid-cell n n (decomposed f n (cell n t)) t r c hr hc (square_fits n (length t) fit)
 
   -- It answers 4 with i where i is the index of the first pivot that is not above zero or not finite ..
-  pub says_4 : (i : ℕ) → FirstRefused f n (cell n t) i → v ≡ Pivot i
+  pub says_4 : (i : ℕ) → FirstRefused f n (cell n t) i → v ≡ Err (Pivot i)
   says_4 = names_first f n (cell n t) v answered
 
   -- .. and only there.
-  pub only_4 : (i : ℕ) → v ≡ Pivot i → FirstRefused f n (cell n t) i
+  pub only_4 : (i : ℕ) → v ≡ Err (Pivot i) → FirstRefused f n (cell n t) i
   only_4 = named_first f n (cell n t) v answered
 
   -- It is done where every pivot is above zero and finite ..
-  pub says_done : ((k : ℕ) → k < n → pivot_taken (pivot_at f (cell n t) k) ≡ true) → v ≡ Done
+  pub says_done : ((k : ℕ) → k < n → pivot_taken (pivot_at f (cell n t) k) ≡ true) → v ≡ Ok tt
   says_done = done_where_taken f n (cell n t) v answered
 
   -- A diagonal entry of the matrix that is NaN or infinite is refused, at its index or before it.
-  pub not_finite_says_4 : (i : ℕ) → i < n → finite (cell n t i i) ≡ false → (k : ℕ) × (k ≤ i) × (v ≡ Pivot k)
+  pub not_finite_says_4 : (i : ℕ) → i < n → finite (cell n t i i) ≡ false → (k : ℕ) × (k ≤ i) × (v ≡ Err (Pivot k))
   not_finite_says_4 i h b = named_before f n (cell n t) v answered i h (pivot_refused f (cell n t) i b)
 
   -- where it is done no pivot stopped it
-  reached_all : v ≡ Done → n ≤ reached f n (cell n t)
+  reached_all : v ≡ Ok tt → n ≤ reached f n (cell n t)
   reached_all = done_reached f n (cell n t) v answered
 
 -- Refused with 1, 2 or 3 it leaves the buffer as lent.
@@ -70,7 +70,7 @@ refused_keeps f n t v t' call l h = rw (refused_at_gate (square_answer n (length
 
 -- ---- a call that is done
 
-module _ (f : Format) (n : ℕ) (t : List Float) (v : Answer) (t' : List Float) (call : Decomposed f n t v t') (done : v ≡ Done) where
+module _ (f : Format) (n : ℕ) (t : List Float) (v : Answer) (t' : List Float) (call : Decomposed f n t v t') (done : v ≡ Ok tt) where
   -- it was not refused with 1 or 2
   pub done_fits : is_done (square_answer n (length t)) ≡ true
   done_fits = first_done (square_answer n (length t)) (pivot_answer (reached f n (cell n t)) n) (sym call.answer ∙ done)
@@ -101,7 +101,7 @@ module _ (f : Format) (n : ℕ) (t : List Float) (v : Answer) (t' : List Float) 
 pub only_upper :
     (f : Format) (n : ℕ) (t u : List Float) (v w : Answer) (t' u' : List Float) → Decomposed f n t v t' → Decomposed f n u w u'
     → is_done (square_answer n (length t)) ≡ true → is_done (square_answer n (length u)) ≡ true → SameUpper n (cell n t) (cell n u)
-    → (v ≡ w) × (v ≡ Done → (r c : ℕ) → r < n → c < n → cell n t' r c ≡ cell n u' r c)
+    → (v ≡ w) × (v ≡ Ok tt → (r c : ℕ) → r < n → c < n → cell n t' r c ≡ cell n u' r c)
 only_upper f n t u v w t' u' a b ft fu same =
     let e = cell n t in
     let g = cell n u in (
@@ -114,7 +114,7 @@ only_upper f n t u v w t' u' a b ft fu same =
 pub only_upper_refused :
     (f : Format) (n : ℕ) (t u : List Float) (v w : Answer) (t' u' : List Float) → Decomposed f n t v t' → Decomposed f n u w u'
     → is_done (square_answer n (length t)) ≡ true → is_done (square_answer n (length u)) ≡ true → SameUpper n (cell n t) (cell n u)
-    → (i : ℕ) → v ≡ Pivot i → (r c : ℕ) → r < n → c < n → (r ≤ c) ⊎ (c < i) → cell n t' r c ≡ cell n u' r c
+    → (i : ℕ) → v ≡ Err (Pivot i) → (r c : ℕ) → r < n → c < n → (r ≤ c) ⊎ (c < i) → cell n t' r c ≡ cell n u' r c
 only_upper_refused f n t u v w t' u' a b ft fu same i q r c hr hc at =
     let e = cell n t in
     let first = only_4 f n t v t' a ft i q in

@@ -1,8 +1,7 @@
 -- What invert_l_cholesky promises (R6, R16): the answer, and every number of the destination. Definitions only.
 use Rattle.std.specs.Prelude.{◌≡◌, List, [], ◌∷◌, ℕ, ◌*◌, length, Float}
 use Rattle.std.specs.Float.{Format}
-use Rattle.answers.specs.declared.Answer.{Answer}
-use Rattle.answers.specs.Answers.{settled}
+use Rattle.answers.specs.Answers.{settled, Answer}
 use Rattle.answers.specs.Tests.{lent, call_answer}
 use Rattle.grids.specs.Grid.{cell, grid}
 use Rattle.factors.specs.Inverse.{inverse}

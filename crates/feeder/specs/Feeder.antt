@@ -2,7 +2,7 @@
 use Rattle.std.specs.Prelude.{◌≡◌, List, [], ◌∷◌, get_or, Float}
 use Rattle.std.specs.Float.{nan, binary32}
 use Rattle.std.specs.Float.Ieee.{of_bits}
-use Rattle.answers.specs.declared.Answer.{Answer}
+use Rattle.answers.specs.Answers.{Answer}
 use Rattle.grids.specs.Grid.{run, grid}
 use Rattle.filters.specs.Prediction.{predicted_x, predicted_p}
 use Rattle.filters.specs.Lent.{Buffers}

@@ -33,7 +33,8 @@ pub fn predict(f: Feeder) -> Feeder
     let q = [0.02, 0.0, 0.0, 0.001];
     let mut predicted = [0.0; 2];
     let mut temp = [0.0; 4];
-    kalman::predict(2, &mut x, &a, &mut p, &q, &mut predicted, &mut temp);
+    // The sizes are taken and the arrays hold their matrices, so this is never refused.
+    let _ = kalman::predict(2, &mut x, &a, &mut p, &q, &mut predicted, &mut temp);
     Feeder { x, p }
 }
 

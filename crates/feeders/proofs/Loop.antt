@@ -1,12 +1,12 @@
 -- A loop over a row of records, in place. A turn at i takes the row in which the first i records are made anew by a step g to the row with the record at i put by what g makes of it (`one_turn`, which both calls cite); so the loop, of n turns,
 -- leaves the first n made anew: `loops` says so of any loop of the logic. There the invariant counts the turns that are left. Assumes `Logic`.
-use mathlib.Core.Path.{◌≡◌, sym, ap, ◌∙◌, subst}
+use mathlib.Core.Path.{◌≡◌, refl, sym, ap, ◌∙◌, subst}
 use Rattle.std.specs.Prelude.{Float}
 use Rattle.std.proofs.lemmas.List.{get_or-set_same, set-set}
 use Prim.Native.Nat.{ℕ, zero, suc, ◌+◌, ◌<◌, ◌≤◌}
 use native.Mathlib.Nat.{add-zero, add-suc, zero-add, suc-add, lt_of_le_of_lt, lt_of_lt_of_le, le-add_right, lt-suc_self}
-use mathlib.Core.List.{List, ◌∷◌}
-use lib.ListN.{length, set}
+use mathlib.Core.List.{List, [], ◌∷◌, ◌++◌}
+use lib.ListN.{length, set, take, drop}
 use lib.WfN.{lt-wf_rel}
 use seplogic.Ra.Ura.{Ura}
 use base.Fraction.{full_share}
@@ -34,6 +34,13 @@ one_turn g i row now s l e r =
     ∙ ap (λ (t : List OneState). set t i (g i (feeder t i))) e
     ∙ each_more g i row no_feeder l
     ∙ ap (λ (k : ℕ). each g k row) (sym (one_more i))
+
+-- the first n of a row made anew as a part of it, with the rest after them
+pub front_anew : (g : ℕ → OneState → OneState) (n : ℕ) (row : List OneState) → each g n (take n row) ++ drop n row ≡ each g n row
+unfolding each
+front_anew g zero row = refl
+front_anew g (suc n) [] = refl
+front_anew g (suc n) (s ∷ row) = ap (λ (t : List OneState). g zero s ∷ t) (front_anew (λ i. g (suc i)) n row)
 
 -- a record that is put in three parts: its x, its p and its count
 module _ (row : List OneState) (i : ℕ) (l : i < length row) (x p : Float) (n : ℕ) where

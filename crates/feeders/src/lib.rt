@@ -1,8 +1,7 @@
 // Up to twelve feeders, each a record of one state, in one call (R33): a row of records is lent, and each
 // is predicted, or corrected by the reading of its own index, in place, from the first to the last.
 //
-// Both functions are thin loops: the prover's own walk does not cover a slice of structs, so they are
-// proved by hand, and all that they decide is by value, in `rows`.
+// Both functions are thin loops: all that they decide is by value, in `rows`.
 #![tactic(auto)]
 
 ghost use Rattle.rows.specs.Rows.{PredictedRow, CorrectedRow};
@@ -16,10 +15,8 @@ pub fn predict(feeders: &mut [OneState]) -> Answer
     ensures { PredictedRow feeders.old result feeders.new }
 {
     let n = rows::to_predict(feeders.len());
-    let mut i = 0;
-    while i < n {
-        feeders[i] = rows::moved(feeders[i]);
-        i += 1;
+    for feeder in feeders[..n].iter_mut() {
+        *feeder = rows::moved(*feeder);
     }
     rows::row_answer(feeders.len())
 }
@@ -33,14 +30,12 @@ pub fn correct(feeders: &mut [OneState], readings: &[f32]) -> Corrections
 {
     let n = rows::to_correct(feeders.len(), readings.len());
     let mut tally = rows::none_yet();
-    let mut i = 0;
-    while i < n {
-        let turn = rows::take_turn(feeders[i], readings, i, tally);
-        feeders[i].x = turn.x;
-        feeders[i].p = turn.p;
-        feeders[i].blind = turn.blind;
+    for (i, feeder) in feeders[..n].iter_mut().enumerate() {
+        let turn = rows::take_turn(*feeder, readings, i, tally);
+        feeder.x = turn.x;
+        feeder.p = turn.p;
+        feeder.blind = turn.blind;
         tally = turn.tally;
-        i += 1;
     }
     rows::told(feeders.len(), readings.len(), tally)
 }

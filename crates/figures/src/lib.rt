@@ -1,7 +1,7 @@
 // What a table is written with: words, whole numbers, and numbers with two decimals.
 #![tactic(auto)]
 
-use hundredths::{Hundredths, in_hundredths};
+use hundredths::in_hundredths;
 use std::io;
 
 // Words. An error is one that a write gave, here and below.
@@ -21,46 +21,25 @@ pub fn whole(rt: &impl Print, n: u64) -> io::Result<()> {
 
 // n at the right of five places.
 pub fn right(rt: &impl Print, n: u64) -> io::Result<()> {
-    if n < 10 {
-        text(rt, b"    ")?;
-    } else if n < 100 {
-        text(rt, b"   ")?;
-    } else if n < 1000 {
-        text(rt, b"  ")?;
-    } else if n < 10000 {
-        text(rt, b" ")?;
-    }
-    whole(rt, n)
-}
-
-// The two decimals of h hundredths.
-fn decimals(rt: &impl Print, h: u64) -> io::Result<()> {
-    if h % 100 < 10 {
-        text(rt, b".0")?;
-    } else {
-        text(rt, b".")?;
-    }
-    whole(rt, h % 100)
+    print!(rt; "{n:>5}")
 }
 
 // v with two decimals.
 pub fn plain(rt: &impl Print, v: f32) -> io::Result<()> {
-    match in_hundredths(v) {
-        Hundredths::Of(h) => {
-            whole(rt, h / 100)?;
-            decimals(rt, h)
-        }
-        Hundredths::Beyond => text(rt, b"?"),
-    }
+    let Some(h) = in_hundredths(v) else {
+        return print!(rt; "?");
+    };
+    let whole = h / 100;
+    let rest = h % 100;
+    print!(rt; "{whole}.{rest:02}")
 }
 
 // The same at the right of eight places.
 pub fn number(rt: &impl Print, v: f32) -> io::Result<()> {
-    match in_hundredths(v) {
-        Hundredths::Of(h) => {
-            right(rt, h / 100)?;
-            decimals(rt, h)
-        }
-        Hundredths::Beyond => text(rt, b"       ?"),
-    }
+    let Some(h) = in_hundredths(v) else {
+        return print!(rt; "       ?");
+    };
+    let whole = h / 100;
+    let rest = h % 100;
+    print!(rt; "{whole:>5}.{rest:02}")
 }

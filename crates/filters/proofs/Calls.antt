@@ -7,9 +7,9 @@ use native.Mathlib.Omega.{arith}
 use borrow.Author.Tests.{lt-ltb, le-ltb}
 use lib.ListN.{length}
 use lib.Ieee.{Float, Format, add, sub}
-use Rattle.answers.specs.declared.Answer.{Answer}
-use Rattle.answers.specs.declared.Answer.TheVariants.{Done, Pivot}
-use Rattle.answers.specs.Answers.{is_done, settled}
+use Rattle.std.proofs.Common.{Ok, Err}
+use Rattle.answers.specs.declared.Refusal.TheVariants.{Pivot}
+use Rattle.answers.specs.Answers.{is_done, settled, Answer}
 use Rattle.grids.specs.Grid.{cell, run, grid, SameEntries}
 use Rattle.grids.proofs.Grids.{run_ext, grid_ext}
 use Rattle.entries.specs.Entries.{times, numbers}
@@ -42,10 +42,10 @@ module _ (f : Format) (n m : ℕ) (b e : Buffers) where
   -- the pivot i is refused: temp_HP and S are written, and the rest is as lent
   pub pivot_refused : (i : ℕ) → i < m → i ≡ pivot_of f n m H P R → e.HP ≡ grid m n (hp_of f n H P) b.HP → e.S ≡ grid m m (factor_of f n m H P R) b.S
       → e.s_inv ≡ b.s_inv → e.PHt ≡ b.PHt → e.K ≡ b.K → e.x ≡ b.x → e.KHP ≡ b.KHP → e.P ≡ b.P
-      → Renewed f n m Done (Pivot i) b e
+      → Renewed f n m (Ok tt) (Err (Pivot i)) b e
   pivot_refused i h q hp s vi vt vk vx vh vp =
-      let named : pivot_answer i m ≡ Pivot i = simp (lt-ltb i m h) in
-      let told : pivots_answer f n m b ≡ Pivot i = ap (λ (k : ℕ). pivot_answer k m) (sym q) ∙ named in
+      let named : pivot_answer i m ≡ Err (Pivot i) = simp (lt-ltb i m h) in
+      let told : pivots_answer f n m b ≡ Err (Pivot i) = ap (λ (k : ℕ). pivot_answer k m) (sym q) ∙ named in
       record {
         answer = rw told refl;
         hp_after = hp;
@@ -73,10 +73,10 @@ module _ (f : Format) (n m : ℕ) (b e : Buffers) where
         → e.x ≡ settled v (run 0 n (new_x f m (cell m e.K) (numbers b.x) (numbers b.y)) b.x) b.x
         → e.KHP ≡ grid n n (times f m (cell m e.K) (cell n e.HP)) b.KHP
         → e.P ≡ settled v (grid n n (λ r c. sub f (P r c) (times f m (cell m e.K) (cell n e.HP) r c)) b.P) b.P
-        → Renewed f n m Done v b e
+        → Renewed f n m (Ok tt) v b e
     gain-taken i v h q vi vt vk vv vx vh vp =
-        let none : pivot_answer i m ≡ Done = simp (le-ltb i m h) in
-        let told : pivots_answer f n m b ≡ Done = ap (λ (k : ℕ). pivot_answer k m) (sym q) ∙ none in
+        let none : pivot_answer i m ≡ Ok tt = simp (le-ltb i m h) in
+        let told : pivots_answer f n m b ≡ Ok tt = ap (λ (k : ℕ). pivot_answer k m) (sym q) ∙ none in
         let G = gain_of f n m H P R I in
         let k_same : SameEntries n m (cell m e.K) G = written n m G b.K e.K k_fits vk in
         let KHP-same : SameEntries n n (times f m (cell m e.K) (cell n e.HP)) (khp_of f n m G H P) =
@@ -106,7 +106,7 @@ module _ (f : Format) (n m : ℕ) (b e : Buffers) where
         → e.x ≡ settled v (run 0 n (new_x f m (cell m e.K) (numbers b.x) (numbers b.y)) b.x) b.x
         → e.KHP ≡ grid n n (times f m (cell m e.K) (cell n e.HP)) b.KHP
         → e.P ≡ settled v (grid n n (λ r c. sub f (P r c) (times f m (cell m e.K) (cell n e.HP) r c)) b.P) b.P
-        → Renewed f n m Done v b e
+        → Renewed f n m (Ok tt) v b e
     pivots_taken i v h q vi vt vk =
         gain-taken i v h q
         (vi ∙ grid_ext m m _ _ b.s_inv inverse_same)
@@ -131,7 +131,7 @@ retold f n m g v b e z z' y' r = record {
 
 module _ (f : Format) (n m : ℕ) (g v : Answer) (b e : Buffers) where
   -- past the door, what the core left
-  past_the_door : is_done g ≡ true → Renewed f n m Done v b e → Renewed f n m g v b e
+  past_the_door : is_done g ≡ true → Renewed f n m (Ok tt) v b e → Renewed f n m g v b e
   past_the_door done r = record {
     answer = rw done r.answer;
     hp_after = rw done r.hp_after;
@@ -159,7 +159,7 @@ at_the_door f n m g v b y q kept = subst (λ (w : Answer). Renewed f n m g w (wi
 })
 
 -- The update is accepted at the door, and its work done; or it is refused there.
-pub update_past : (f : Format) (n m : ℕ) (b : Buffers) (v : Answer) (e : Buffers) → is_done (update_answer n m b) ≡ true → e.y ≡ b.y → Renewed f n m Done v b e → Updated f n m b v e
+pub update_past : (f : Format) (n m : ℕ) (b : Buffers) (v : Answer) (e : Buffers) → is_done (update_answer n m b) ≡ true → e.y ≡ b.y → Renewed f n m (Ok tt) v b e → Updated f n m b v e
 update_past f n m b v e d y r = record { renewed = past_the_door f n m (update_answer n m b) v b e d r; y_after = y }
 
 pub update_refused : (f : Format) (n m : ℕ) (b : Buffers) (v : Answer) → v ≡ update_answer n m b → is_done v ≡ false → Updated f n m b v b
@@ -167,13 +167,13 @@ update_refused f n m b v q d = record { renewed = at_the_door f n m (update_answ
 
 -- So the correction: the innovation went into y, and the update read it there. The update's own lists have no z.
 pub correct_past : (f : Format) (n m : ℕ) (b : Buffers) (v : Answer) (e : Buffers) (z : List Float) → is_done (correct_answer n m b) ≡ true → e.y ≡ innovation_in f n m b
-    → Renewed f n m Done v (with_z (with_y b e.y) z) (with_z e z) → Corrected f n m b v e
+    → Renewed f n m (Ok tt) v (with_z (with_y b e.y) z) (with_z e z) → Corrected f n m b v e
 correct_past f n m b v e z d q r =
     let same : e.y ≡ innovated f n m b = q ∙ rw d in
     record {
       y_after = same;
       renewed = subst (λ (y : List Float). Renewed f n m (correct_answer n m b) v (with_y b y) e) same
-          (past_the_door f n m (correct_answer n m b) v (with_y b e.y) e d (retold f n m Done v (with_z (with_y b e.y) z) (with_z e z) b.z e.z e.y r));
+          (past_the_door f n m (correct_answer n m b) v (with_y b e.y) e d (retold f n m (Ok tt) v (with_z (with_y b e.y) z) (with_z e z) b.z e.z e.y r));
     }
 
 pub correct_refused : (f : Format) (n m : ℕ) (b : Buffers) (v : Answer) → v ≡ correct_answer n m b → is_done v ≡ false → Corrected f n m b v b

@@ -7,9 +7,9 @@ use Prim.Native.Nat.{ℕ, ◌≤◌}
 use native.Mathlib.Omega.{arith}
 use lib.Dec.{ltb}
 use lib.Ieee.{Format}
-use Rattle.answers.specs.declared.Answer.{Answer}
-use Rattle.answers.specs.declared.Answer.TheVariants.{Done, Pivot, NotFinite}
-use Rattle.answers.specs.Answers.{number_of, is_done, first_of}
+use Rattle.std.proofs.Common.{Ok, Err}
+use Rattle.answers.specs.declared.Refusal.TheVariants.{Pivot, NotFinite}
+use Rattle.answers.specs.Answers.{number_of, is_done, first_of, Answer}
 use Rattle.answers.proofs.Kept.{is_done_lem}
 use Rattle.answers.proofs.Asked.{goes_on}
 use Rattle.numbers.specs.Finite.{all_finite, entries_finite}
@@ -29,7 +29,7 @@ use Rattle.filters.proofs.Verdict.{earlier, done_passed, nine_failed, finite_eac
 pivot_number : (f : Format) (n m : ℕ) (b : Buffers) → number_of (pivots_answer f n m b) ≤ 4
 pivot_number f n m b = let i = pivot_of f n m (cell n b.H) (cell n b.P) (cell m b.R) in go (ltb i m) i
   where
-    go : (t : Bool) (i : ℕ) → number_of (cond t (Pivot i) Done) ≤ 4
+    go : (t : Bool) (i : ℕ) → number_of (cond t (Err (Pivot i)) (Ok tt)) ≤ 4
     go true i = omega arith
     go false i = omega arith
 
@@ -43,7 +43,7 @@ module _ {f : Format} {n m : ℕ} {g v : Answer} {b e : Buffers} (r : Renewed f 
   past d = r.answer ∙ ap (λ (u : Answer). first_of u (finite_answer n (next_x f n m b) (next_p f n m b))) (goes_on g (pivots_answer f n m b) d)
 
   -- a pivot that is refused is the answer
-  pub refused_by_pivots : is_done g ≡ true → (i : ℕ) → pivots_answer f n m b ≡ Pivot i → v ≡ Pivot i
+  pub refused_by_pivots : is_done g ≡ true → (i : ℕ) → pivots_answer f n m b ≡ Err (Pivot i) → v ≡ Err (Pivot i)
   refused_by_pivots d i q = past d ∙ ap (λ (u : Answer). first_of u (finite_answer n (next_x f n m b) (next_p f n m b))) q
 
   -- past the pivots the last test decides
@@ -53,28 +53,28 @@ module _ {f : Format} {n m : ℕ} {g v : Answer} {b e : Buffers} (r : Renewed f 
       ∙ ap (λ (u : Answer). first_of u (finite_answer n (next_x f n m b) (next_p f n m b))) (done_where_taken f m (covariance f n m b) (pivots_answer f n m b) refl all)
 
   -- where the gate and the pivots let it pass both were done
-  both_done : is_done (first_of g (pivots_answer f n m b)) ≡ true → (is_done g ≡ true) × (pivots_answer f n m b ≡ Done)
+  both_done : is_done (first_of g (pivots_answer f n m b)) ≡ true → (is_done g ≡ true) × (pivots_answer f n m b ≡ Ok tt)
   both_done q =
       let d = first_done g (pivots_answer f n m b) (is_done_lem (first_of g (pivots_answer f n m b)) q) in
       (d, is_done_lem (pivots_answer f n m b) (ap is_done (sym (goes_on g (pivots_answer f n m b) d)) ∙ q))
 
   -- a refusal with 4, and what it names
-  renewed_says_4 : is_done g ≡ true → (i : ℕ) → FirstRefused f m (covariance f n m b) i → v ≡ Pivot i
+  renewed_says_4 : is_done g ≡ true → (i : ℕ) → FirstRefused f m (covariance f n m b) i → v ≡ Err (Pivot i)
   renewed_says_4 d i h = refused_by_pivots d i (names_first f m (covariance f n m b) (pivots_answer f n m b) refl i h)
 
-  pub told_by_pivots : is_done g ≡ true → (i : ℕ) → v ≡ Pivot i → v ≡ pivots_answer f n m b
+  pub told_by_pivots : is_done g ≡ true → (i : ℕ) → v ≡ Err (Pivot i) → v ≡ pivots_answer f n m b
   told_by_pivots d i q =
       let four : number_of v ≡ 4 = ap number_of q in
       earlier (pivots_answer f n m b) verdict v (past d) (omega arith) (omega arith)
 
-  renewed_only_4 : is_done g ≡ true → (i : ℕ) → v ≡ Pivot i → FirstRefused f m (covariance f n m b) i
+  renewed_only_4 : is_done g ≡ true → (i : ℕ) → v ≡ Err (Pivot i) → FirstRefused f m (covariance f n m b) i
   renewed_only_4 d i q = named_first f m (covariance f n m b) v (told_by_pivots d i q) i q
 
   -- a refusal with 9
-  renewed_says_9 : is_done g ≡ true → AllTaken f n m b → NextNotFinite f n m b → v ≡ NotFinite
+  renewed_says_9 : is_done g ≡ true → AllTaken f n m b → NextNotFinite f n m b → v ≡ Err NotFinite
   renewed_says_9 d all some = past_pivots d all ∙ rw (not_some n (next_x f n m b) (next_p f n m b) some) refl
 
-  renewed_only_9 : number_of g ≤ 3 → v ≡ NotFinite → (is_done g ≡ true) × AllTaken f n m b × NextNotFinite f n m b
+  renewed_only_9 : number_of g ≤ 3 → v ≡ Err NotFinite → (is_done g ≡ true) × AllTaken f n m b × NextNotFinite f n m b
   renewed_only_9 h q =
       let w = nine_failed (first_of g (pivots_answer f n m b)) verdict v r.answer (small (is_done g) refl) q in
       let d = both_done w.0 in
@@ -85,64 +85,64 @@ module _ {f : Format} {n m : ℕ} {g v : Answer} {b e : Buffers} (r : Renewed f 
       small false e = omega arith
 
   -- done
-  renewed_says_done : is_done g ≡ true → AllTaken f n m b → NextFinite f n m b → v ≡ Done
+  renewed_says_done : is_done g ≡ true → AllTaken f n m b → NextFinite f n m b → v ≡ Ok tt
   renewed_says_done d all each = past_pivots d all ∙ rw (each_finite n (next_x f n m b) (next_p f n m b) each) refl
 
   -- done: the gate and the pivots were, and the last test was passed
-  pub all_passed : v ≡ Done → (is_done g ≡ true) × (pivots_answer f n m b ≡ Done) × NextFinite f n m b
+  pub all_passed : v ≡ Ok tt → (is_done g ≡ true) × (pivots_answer f n m b ≡ Ok tt) × NextFinite f n m b
   all_passed q =
       let w = done_passed (first_of g (pivots_answer f n m b)) verdict v r.answer q in
       let d = both_done w.0 in
       (d.0, d.1, finite_each n (next_x f n m b) (next_p f n m b) w.1)
 
-  renewed_only_done : v ≡ Done → (is_done g ≡ true) × AllTaken f n m b × NextFinite f n m b
+  renewed_only_done : v ≡ Ok tt → (is_done g ≡ true) × AllTaken f n m b × NextFinite f n m b
   renewed_only_done q = let w = all_passed q in (w.0, taken_where_done f m (covariance f n m b) (pivots_answer f n m b) refl w.1, w.2)
 
 -- ---- the update
 
 module _ (f : Format) (n m : ℕ) (b : Buffers) (v : Answer) (e : Buffers) (call : Updated f n m b v e) where
   -- Past refusals 1 and 2 it answers 4 with i where i is the index of the first pivot that is not above zero or not finite ..
-  pub update_says_4 : is_done (update_answer n m b) ≡ true → (i : ℕ) → FirstRefused f m (covariance f n m b) i → v ≡ Pivot i
+  pub update_says_4 : is_done (update_answer n m b) ≡ true → (i : ℕ) → FirstRefused f m (covariance f n m b) i → v ≡ Err (Pivot i)
   update_says_4 = renewed_says_4 call.renewed
 
   -- .. and only there.
-  pub update_only_4 : is_done (update_answer n m b) ≡ true → (i : ℕ) → v ≡ Pivot i → FirstRefused f m (covariance f n m b) i
+  pub update_only_4 : is_done (update_answer n m b) ≡ true → (i : ℕ) → v ≡ Err (Pivot i) → FirstRefused f m (covariance f n m b) i
   update_only_4 = renewed_only_4 call.renewed
 
   -- It answers 9 where it is past them, every pivot is taken, and some number of the new x or entry of the new P is not finite ..
-  pub update_says_9 : is_done (update_answer n m b) ≡ true → AllTaken f n m b → NextNotFinite f n m b → v ≡ NotFinite
+  pub update_says_9 : is_done (update_answer n m b) ≡ true → AllTaken f n m b → NextNotFinite f n m b → v ≡ Err NotFinite
   update_says_9 = renewed_says_9 call.renewed
 
   -- .. and only there.
-  pub update_only_9 : v ≡ NotFinite → (is_done (update_answer n m b) ≡ true) × AllTaken f n m b × NextNotFinite f n m b
+  pub update_only_9 : v ≡ Err NotFinite → (is_done (update_answer n m b) ≡ true) × AllTaken f n m b × NextNotFinite f n m b
   update_only_9 = renewed_only_9 call.renewed (update_at_most_3 n m b)
 
   -- It is done where it is past them, every pivot is above zero and finite, and so is all of the new x and P ..
-  pub update_says_done : is_done (update_answer n m b) ≡ true → AllTaken f n m b → NextFinite f n m b → v ≡ Done
+  pub update_says_done : is_done (update_answer n m b) ≡ true → AllTaken f n m b → NextFinite f n m b → v ≡ Ok tt
   update_says_done = renewed_says_done call.renewed
 
   -- .. and only there.
-  pub update_only_done : v ≡ Done → (is_done (update_answer n m b) ≡ true) × AllTaken f n m b × NextFinite f n m b
+  pub update_only_done : v ≡ Ok tt → (is_done (update_answer n m b) ≡ true) × AllTaken f n m b × NextFinite f n m b
   update_only_done = renewed_only_done call.renewed
 
 -- ---- the correction: the new x and P are those of the update from the innovation
 
 module _ (f : Format) (n m : ℕ) (b : Buffers) (v : Answer) (e : Buffers) (call : Corrected f n m b v e) where
   -- The same for the correction.
-  pub correct_says_4 : is_done (correct_answer n m b) ≡ true → (i : ℕ) → FirstRefused f m (covariance f n m b) i → v ≡ Pivot i
+  pub correct_says_4 : is_done (correct_answer n m b) ≡ true → (i : ℕ) → FirstRefused f m (covariance f n m b) i → v ≡ Err (Pivot i)
   correct_says_4 = renewed_says_4 call.renewed
 
-  pub correct_only_4 : is_done (correct_answer n m b) ≡ true → (i : ℕ) → v ≡ Pivot i → FirstRefused f m (covariance f n m b) i
+  pub correct_only_4 : is_done (correct_answer n m b) ≡ true → (i : ℕ) → v ≡ Err (Pivot i) → FirstRefused f m (covariance f n m b) i
   correct_only_4 = renewed_only_4 call.renewed
 
-  pub correct_says_9 : is_done (correct_answer n m b) ≡ true → AllTaken f n m b → NextNotFinite f n m (with_y b (innovated f n m b)) → v ≡ NotFinite
+  pub correct_says_9 : is_done (correct_answer n m b) ≡ true → AllTaken f n m b → NextNotFinite f n m (with_y b (innovated f n m b)) → v ≡ Err NotFinite
   correct_says_9 = renewed_says_9 call.renewed
 
-  pub correct_only_9 : v ≡ NotFinite → (is_done (correct_answer n m b) ≡ true) × AllTaken f n m b × NextNotFinite f n m (with_y b (innovated f n m b))
+  pub correct_only_9 : v ≡ Err NotFinite → (is_done (correct_answer n m b) ≡ true) × AllTaken f n m b × NextNotFinite f n m (with_y b (innovated f n m b))
   correct_only_9 = renewed_only_9 call.renewed (correct_at_most_3 n m b)
 
-  pub correct_says_done : is_done (correct_answer n m b) ≡ true → AllTaken f n m b → NextFinite f n m (with_y b (innovated f n m b)) → v ≡ Done
+  pub correct_says_done : is_done (correct_answer n m b) ≡ true → AllTaken f n m b → NextFinite f n m (with_y b (innovated f n m b)) → v ≡ Ok tt
   correct_says_done = renewed_says_done call.renewed
 
-  pub correct_only_done : v ≡ Done → (is_done (correct_answer n m b) ≡ true) × AllTaken f n m b × NextFinite f n m (with_y b (innovated f n m b))
+  pub correct_only_done : v ≡ Ok tt → (is_done (correct_answer n m b) ≡ true) × AllTaken f n m b × NextFinite f n m (with_y b (innovated f n m b))
   correct_only_done = renewed_only_done call.renewed

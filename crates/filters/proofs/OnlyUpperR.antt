@@ -6,8 +6,7 @@ use mathlib.Core.List.{List}
 use Prim.Native.Nat.{ℕ, ◌<◌, ◌≤◌}
 use native.Mathlib.Omega.{arith}
 use lib.Ieee.{Float, Format, add, sub}
-use Rattle.answers.specs.declared.Answer.{Answer}
-use Rattle.answers.specs.Answers.{is_done, settled}
+use Rattle.answers.specs.Answers.{is_done, settled, Answer}
 use Rattle.grids.specs.Grid.{cell, SameEntries}
 use Rattle.grids.proofs.Grids.{run_ext, grid_ext}
 use Rattle.entries.specs.Entries.{numbers}

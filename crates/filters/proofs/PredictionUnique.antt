@@ -3,7 +3,7 @@ use mathlib.Core.Path.{◌≡◌}
 use mathlib.Core.List.{List}
 use Prim.Native.Nat.{ℕ}
 use lib.Ieee.{Float, Format}
-use Rattle.answers.specs.declared.Answer.{Answer}
+use Rattle.answers.specs.Answers.{Answer}
 use Rattle.filters.specs.Predicted.{PredictedX, PredictedP, Predicted}
 
 pub predict_x_unique : {f : Format} {n : ℕ} {x A px : List Float} {v w : Answer} {x' x'' px' px'' : List Float}

@@ -6,8 +6,7 @@ use mathlib.Core.List.{List}
 use Prim.Native.Nat.{ℕ, ◌≤◌}
 use native.Mathlib.Omega.{arith}
 use lib.Ieee.{Float, Format}
-use Rattle.answers.specs.declared.Answer.{Answer}
-use Rattle.answers.specs.Answers.{number_of, is_done, first_of}
+use Rattle.answers.specs.Answers.{number_of, is_done, first_of, Answer}
 use Rattle.answers.proofs.Kept.{not_done}
 use Rattle.numbers.specs.Finite.{all_finite, entries_finite}
 use Rattle.grids.specs.Grid.{cell}

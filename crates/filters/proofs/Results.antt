@@ -12,9 +12,9 @@ use lib.Dec.{ltb}
 use lib.ListN.{length, get_or}
 use lib.Ieee.{Float, Format, nan}
 use lib.Ieee.Scale.{finite}
-use Rattle.answers.specs.declared.Answer.{Answer}
-use Rattle.answers.specs.declared.Answer.TheVariants.{Done, Pivot, NotFinite}
-use Rattle.answers.specs.Answers.{is_done, first_of}
+use Rattle.std.proofs.Common.{Ok, Err}
+use Rattle.answers.specs.declared.Refusal.TheVariants.{Pivot, NotFinite}
+use Rattle.answers.specs.Answers.{is_done, first_of, Answer}
 use Rattle.answers.proofs.Kept.{is_done_lem}
 use Rattle.numbers.specs.Sums.{products}
 use Rattle.numbers.proofs.NotFinite.{not_finite_plus, plus_not_finite, not_finite_less, times_not_finite, first_not_finite}
@@ -56,10 +56,10 @@ grid_stays n e l pos fits each i h =
 
 module _ (f : Format) (n m : ℕ) (g v : Answer) (b e : Buffers) (r : Renewed f n m g v b e) where
   -- what a done update wrote
-  wrote : v ≡ Done → (e.x ≡ run 0 n (next_x f n m b) b.x) × (e.P ≡ grid n n (next_p f n m b) b.P)
+  wrote : v ≡ Ok tt → (e.x ≡ run 0 n (next_x f n m b) b.x) × (e.P ≡ grid n n (next_p f n m b) b.P)
   wrote q = let d = ap is_done q in (rw d at r.x_after, rw d at r.p_after)
 
-  renewed_finite : n ≤ length b.x → n * n ≤ length b.P → v ≡ Done → HeldFinite n e.x e.P
+  renewed_finite : n ≤ length b.x → n * n ≤ length b.P → v ≡ Ok tt → HeldFinite n e.x e.P
   renewed_finite hx hP q =
       let w = wrote q in
       let each = (all_passed r q).2 in (
@@ -68,7 +68,7 @@ module _ (f : Format) (n m : ℕ) (g v : Answer) (b e : Buffers) (r : Renewed f 
       )
 
   -- the new x is x with something added, and the new P is P with something taken off
-  renewed_was_finite : v ≡ Done → HeldFinite n b.x b.P
+  renewed_was_finite : v ≡ Ok tt → HeldFinite n b.x b.P
   renewed_was_finite q =
       let each = (all_passed r q).2 in (
         λ i hi. holds (finite (numbers b.x i)) (λ bad. true≢false (sym (each.0 i hi) ∙ not_finite_plus f _ _ bad)),
@@ -84,12 +84,12 @@ module _ (f : Format) (n m : ℕ) (g v : Answer) (b e : Buffers) (r : Renewed f 
   next_unheard some i h bad =
       inl (0, some, plus_not_finite f (numbers b.x 0) _ (first_not_finite f (products f (gain_in f n m b 0) (numbers b.y)) m i h (times_not_finite f (gain_in f n m b 0 i) (numbers b.y i) bad)))
 
-  renewed_refused : is_done g ≡ true → NextNotFinite f n m b → ((k : ℕ) × (v ≡ Pivot k)) ⊎ (v ≡ NotFinite)
+  renewed_refused : is_done g ≡ true → NextNotFinite f n m b → ((k : ℕ) × (v ≡ Err (Pivot k))) ⊎ (v ≡ Err NotFinite)
   renewed_refused gate bad =
       let i = pivot_of f n m (cell n b.H) (cell n b.P) (cell m b.R) in
       go (ltb i m) i (past r gate)
     where
-      go : (t : Bool) (i : ℕ) → v ≡ first_of (cond t (Pivot i) Done) (finite_answer n (next_x f n m b) (next_p f n m b)) → ((k : ℕ) × (v ≡ Pivot k)) ⊎ (v ≡ NotFinite)
+      go : (t : Bool) (i : ℕ) → v ≡ first_of (cond t (Err (Pivot i)) (Ok tt)) (finite_answer n (next_x f n m b) (next_p f n m b)) → ((k : ℕ) × (v ≡ Err (Pivot k))) ⊎ (v ≡ Err NotFinite)
       go true i q = inl (i, q)
       go false i q = inr (q ∙ rw (not_some n (next_x f n m b) (next_p f n m b) bad) refl)
 
@@ -115,23 +115,23 @@ module _ (f : Format) (n m : ℕ) (g v : Answer) (b e : Buffers) (r : Renewed f 
 
 module _ (f : Format) (n m : ℕ) (b : Buffers) (v : Answer) (e : Buffers) (call : Updated f n m b v e) where
   -- Done, every number of x and every entry of P is finite, whatever was lent ..
-  pub update_leaves_finite : v ≡ Done → HeldFinite n e.x e.P
+  pub update_leaves_finite : v ≡ Ok tt → HeldFinite n e.x e.P
   update_leaves_finite q =
       let h = update_fits n m b (all_passed call.renewed q).0 in
       renewed_finite f n m (update_answer n m b) v b e call.renewed h.x_holds h.p_holds q
 
   -- .. and was before.
-  pub update_found_finite : v ≡ Done → HeldFinite n b.x b.P
+  pub update_found_finite : v ≡ Ok tt → HeldFinite n b.x b.P
   update_found_finite = renewed_was_finite f n m (update_answer n m b) v b e call.renewed
 
   -- Past refusals 1 and 2, an x or a P that is not finite is refused, with 4 or with 9.
-  pub update_spoilt : is_done (update_answer n m b) ≡ true → HeldNotFinite n b.x b.P → ((k : ℕ) × (v ≡ Pivot k)) ⊎ (v ≡ NotFinite)
+  pub update_spoilt : is_done (update_answer n m b) ≡ true → HeldNotFinite n b.x b.P → ((k : ℕ) × (v ≡ Err (Pivot k))) ⊎ (v ≡ Err NotFinite)
   update_spoilt gate bad =
       let r = call.renewed in
       renewed_refused f n m (update_answer n m b) v b e r gate (next_spoilt f n m (update_answer n m b) v b e r bad)
 
   -- So is a y in which a number is NaN or infinite.
-  pub update_bad_innovation : is_done (update_answer n m b) ≡ true → (i : ℕ) → i < m → finite (numbers b.y i) ≡ false → ((k : ℕ) × (v ≡ Pivot k)) ⊎ (v ≡ NotFinite)
+  pub update_bad_innovation : is_done (update_answer n m b) ≡ true → (i : ℕ) → i < m → finite (numbers b.y i) ≡ false → ((k : ℕ) × (v ≡ Err (Pivot k))) ⊎ (v ≡ Err NotFinite)
   update_bad_innovation gate i h bad =
       let r = call.renewed in
       renewed_refused f n m (update_answer n m b) v b e r gate (next_unheard f n m (update_answer n m b) v b e r (update_fits n m b gate).states i h bad)
@@ -149,21 +149,21 @@ module _ (f : Format) (n m : ℕ) (b : Buffers) (v : Answer) (e : Buffers) (call
   given = with_y b (innovated f n m b)
 
   -- The same for the correction.
-  pub correct_leaves_finite : v ≡ Done → HeldFinite n e.x e.P
+  pub correct_leaves_finite : v ≡ Ok tt → HeldFinite n e.x e.P
   correct_leaves_finite q =
       let h = (correct_fits n m b (all_passed call.renewed q).0).0 in
       renewed_finite f n m (correct_answer n m b) v given e call.renewed h.x_holds h.p_holds q
 
-  pub correct_found_finite : v ≡ Done → HeldFinite n b.x b.P
+  pub correct_found_finite : v ≡ Ok tt → HeldFinite n b.x b.P
   correct_found_finite = renewed_was_finite f n m (correct_answer n m b) v given e call.renewed
 
-  pub correct_spoilt : is_done (correct_answer n m b) ≡ true → HeldNotFinite n b.x b.P → ((k : ℕ) × (v ≡ Pivot k)) ⊎ (v ≡ NotFinite)
+  pub correct_spoilt : is_done (correct_answer n m b) ≡ true → HeldNotFinite n b.x b.P → ((k : ℕ) × (v ≡ Err (Pivot k))) ⊎ (v ≡ Err NotFinite)
   correct_spoilt gate bad =
       let r = call.renewed in
       renewed_refused f n m (correct_answer n m b) v given e r gate (next_spoilt f n m (correct_answer n m b) v given e r bad)
 
   -- A reading that is NaN or infinite, in whatever place, is refused, with 4 or with 9: what the estimate would give is taken from it.
-  pub correct_bad_reading : is_done (correct_answer n m b) ≡ true → (i : ℕ) → i < m → finite (numbers b.z i) ≡ false → ((k : ℕ) × (v ≡ Pivot k)) ⊎ (v ≡ NotFinite)
+  pub correct_bad_reading : is_done (correct_answer n m b) ≡ true → (i : ℕ) → i < m → finite (numbers b.z i) ≡ false → ((k : ℕ) × (v ≡ Err (Pivot k))) ⊎ (v ≡ Err NotFinite)
   correct_bad_reading gate i h bad =
       let r = call.renewed in
       let fits = (correct_fits n m b gate).0 in

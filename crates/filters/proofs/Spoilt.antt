@@ -8,8 +8,7 @@ use Prim.Native.Nat.{ℕ, ◌*◌, ◌<◌}
 use lib.ListN.{length}
 use lib.Ieee.{Float, Format}
 use lib.Ieee.Scale.{finite}
-use Rattle.answers.specs.declared.Answer.{Answer}
-use Rattle.answers.specs.Answers.{is_done}
+use Rattle.answers.specs.Answers.{is_done, Answer}
 use Rattle.answers.specs.Tests.{lent}
 use Rattle.answers.proofs.Fit.{fit}
 use Rattle.numbers.specs.Sums.{plus0, products}

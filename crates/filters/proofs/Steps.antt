@@ -7,7 +7,8 @@ use Prim.Native.Nat.{ℕ, ◌+◌, ◌*◌, ◌<◌, ◌≤◌}
 use lib.ListN.{length, get_or}
 use lib.Ieee.{Float, Format, nan, add, sub}
 use lib.Ieee.Scale.{finite}
-use Rattle.answers.specs.declared.Answer.TheVariants.{Done, NotFinite}
+use Rattle.std.proofs.Common.{Ok, Err}
+use Rattle.answers.specs.declared.Refusal.TheVariants.{NotFinite}
 use Rattle.numbers.specs.Finite.{every, all_finite, entries_finite}
 use Rattle.numbers.proofs.Every.{every_same, every_flat}
 use Rattle.grids.specs.Grid.{cell, run, grid}
@@ -98,15 +99,15 @@ module _ (f : Format) (n m : ℕ) (x P y K HP KHP ky ky' KHP' : List Float) (ky-
   -- a says of the sums whether they are finite, and b of the differences
   module _ {a b : Bool} (told : a ≡ all_finite n sum) (told' : b ≡ all_finite (n * n) difference) where
     pub stored : {x' P' : List Float} → a ≡ true → b ≡ true → x' ≡ run 0 n sum x → P' ≡ run 0 (n * n) difference P
-        → (Done ≡ finite_answer n X Q) × (x' ≡ run 0 n X x) × (P' ≡ grid n n Q P)
+        → (Ok tt ≡ finite_answer n X Q) × (x' ≡ run 0 n X x) × (P' ≡ grid n n Q P)
     stored t t' q q' = (
       rw (sym (sums_tested a told) ∙ t, sym (differences_tested b told') ∙ t') refl,
       q ∙ run_ext 0 n sum X x sum_is,
       q' ∙ entrywise n (sub f) P KHP' P ∙ grid_ext n n _ _ P difference_is,
     )
 
-    pub difference_refused : a ≡ true → b ≡ false → NotFinite ≡ finite_answer n X Q
+    pub difference_refused : a ≡ true → b ≡ false → Err NotFinite ≡ finite_answer n X Q
     difference_refused t t' = rw (sym (sums_tested a told) ∙ t, sym (differences_tested b told') ∙ t') refl
 
-  pub sum_refused : {a : Bool} → a ≡ all_finite n sum → a ≡ false → NotFinite ≡ finite_answer n X Q
+  pub sum_refused : {a : Bool} → a ≡ all_finite n sum → a ≡ false → Err NotFinite ≡ finite_answer n X Q
   sum_refused {a} told t = rw (sym (sums_tested a told) ∙ t) refl

@@ -8,9 +8,9 @@ use native.Mathlib.Omega.{arith}
 use lib.ListN.{length, set}
 use lib.Ieee.{Float, Format, add, sub, mul}
 use lib.Ieee.Scale.{finite}
-use Rattle.answers.specs.declared.Answer.{Answer}
-use Rattle.answers.specs.declared.Answer.TheVariants.{Done, Pivot, NotFinite}
-use Rattle.answers.specs.Answers.{settled}
+use Rattle.std.proofs.Common.{Ok, Err}
+use Rattle.answers.specs.declared.Refusal.TheVariants.{Pivot, NotFinite}
+use Rattle.answers.specs.Answers.{settled, Answer}
 use Rattle.numbers.specs.Reciprocal.{one, recip_of}
 use Rattle.numbers.specs.Root.{sqrt_of}
 use Rattle.numbers.specs.Sums.{plus0}
@@ -61,7 +61,7 @@ module _ (f : Format) (n m : ℕ) (b e : Buffers) (J : ℕ → ℕ → Float) (Y
   -- every pivot is taken, and v says whether the new x and P are finite
   pub renewed_by :
       (v : Answer) (y : List Float) → m ≤ length y → b.y ≡ run 0 m Y y
-      → pivots_answer f n m b ≡ Done → SameEntries m m J (inverse_of f n m H P R I)
+      → pivots_answer f n m b ≡ Ok tt → SameEntries m m J (inverse_of f n m H P R I)
       → Verdict n X N v
       → e.HP ≡ grid m n (hp_of f n H P) b.HP
       → e.S ≡ grid m m (factor_of f n m H P R) b.S
@@ -71,7 +71,7 @@ module _ (f : Format) (n m : ℕ) (b e : Buffers) (J : ℕ → ℕ → Float) (Y
       → e.KHP ≡ grid n n (khp_of f n m K H P) b.KHP
       → e.x ≡ settled v (run 0 n X b.x) b.x
       → e.P ≡ settled v (grid n n N b.P) b.P
-      → Renewed f n m Done v b e
+      → Renewed f n m (Ok tt) v b e
   renewed_by v y fits told none j_same vv hp s vi vt vk vh vx vp =
       let G = gain_of f n m H P R I in
       let k_same : SameEntries n m K G = times_alike f n m m (pht_of f n H P) (pht_of f n H P) J (inverse_of f n m H P R I) (λ r c hr hc. refl) j_same in
@@ -95,7 +95,7 @@ module _ (f : Format) (n m : ℕ) (b e : Buffers) (J : ℕ → ℕ → Float) (Y
 
 module _ (f : Format) (e : ℕ → ℕ → Float) where
   -- its pivot is the entry: taken, nothing is refused
-  none_of_one : pivot_taken (e 0 0) ≡ true → pivot_answer (reached f 1 e) 1 ≡ Done
+  none_of_one : pivot_taken (e 0 0) ≡ true → pivot_answer (reached f 1 e) 1 ≡ Ok tt
   unfolding first_not factor less_dot
   none_of_one t = rw t refl
 
@@ -135,7 +135,7 @@ module _ (f : Format) (n : ℕ) (b e : Buffers) where
       → e.HP ≡ grid 1 n (hp_of f n (cell n b.H) (cell n b.P)) b.HP
       → e.S ≡ set b.S 0 (mul f (residual 0 0) plus0)
       → e.s_inv ≡ b.s_inv → e.PHt ≡ b.PHt → e.K ≡ b.K → e.x ≡ b.x → e.KHP ≡ b.KHP → e.P ≡ b.P
-      → Renewed f n 1 Done (Pivot 0) b e
+      → Renewed f n 1 (Ok tt) (Err (Pivot 0)) b e
   unfolding run grid first_not factor less_dot
   refused_by_one t hp s vi vt vk vx vh vp =
       pivot_refused f n 1 b e 0 (omega arith) (rw t refl) hp (s ∙ ap (set b.S 0) (sym (refused_one f residual t))) vi vt vk vx vh vp
@@ -160,7 +160,7 @@ module _ (f : Format) (n : ℕ) (b e : Buffers) where
         → e.KHP ≡ grid n n (khp_of f n 1 (K f n 1 b e J Y) (cell n b.H) (cell n b.P)) b.KHP
         → e.x ≡ settled v (run 0 n (X f n 1 b e J Y) b.x) b.x
         → e.P ≡ settled v (grid n n (N f n 1 b e J Y) b.P) b.P
-        → Renewed f n 1 Done v b e
+        → Renewed f n 1 (Ok tt) v b e
     unfolding run grid
     renewed_by_one v l y fits told t root recip vv hp s vi vt vk vh vx vp =
         let L = decomposed f 1 residual in
@@ -179,24 +179,24 @@ and_and false b c = refl
 module _ (x : ℕ → Float) (P' : ℕ → ℕ → Float) where
   -- one state: r says it of both numbers
   module _ (r : Bool) (says : r ≡ finite (x 0) && finite (P' 0 0)) where
-    pub one_passed : r ≡ true → Verdict 1 x P' Done
+    pub one_passed : r ≡ true → Verdict 1 x P' (Ok tt)
     unfolding every
-    one_passed u = record { told = ap (λ (t : Bool). cond t Done NotFinite) (sym u ∙ says) }
+    one_passed u = record { told = ap (λ (t : Bool). cond {A = Answer} t (Ok tt) (Err NotFinite)) (sym u ∙ says) }
 
-    pub one_failed : r ≡ false → Verdict 1 x P' NotFinite
+    pub one_failed : r ≡ false → Verdict 1 x P' (Err NotFinite)
     unfolding every
-    one_failed u = record { told = ap (λ (t : Bool). cond t Done NotFinite) (sym u ∙ says) }
+    one_failed u = record { told = ap (λ (t : Bool). cond {A = Answer} t (Ok tt) (Err NotFinite)) (sym u ∙ says) }
 
   -- two states: r says it of all six
   module _ (r : Bool) (says : r ≡ (finite (x 0) && finite (x 1)) && (((finite (P' 0 0) && finite (P' 0 1)) && finite (P' 1 0)) && finite (P' 1 1))) where
-    all_six : (t : Bool) → r ≡ t → cond t Done NotFinite ≡ finite_answer 2 x P'
+    all_six : (t : Bool) → r ≡ t → cond {A = Answer} t (Ok tt) (Err NotFinite) ≡ finite_answer 2 x P'
     unfolding every
     all_six t u =
-        ap (λ (q : Bool). cond q Done NotFinite) (sym u ∙ says)
-        ∙ ap (λ (q : Bool). cond ((finite (x 0) && finite (x 1)) && q) Done NotFinite) (and_and (finite (P' 0 0) && finite (P' 0 1)) (finite (P' 1 0)) (finite (P' 1 1)))
+        ap (λ (q : Bool). cond {A = Answer} q (Ok tt) (Err NotFinite)) (sym u ∙ says)
+        ∙ ap (λ (q : Bool). cond ((finite (x 0) && finite (x 1)) && q) (Ok tt) (Err NotFinite)) (and_and (finite (P' 0 0) && finite (P' 0 1)) (finite (P' 1 0)) (finite (P' 1 1)))
 
-    pub two_passed : r ≡ true → Verdict 2 x P' Done
+    pub two_passed : r ≡ true → Verdict 2 x P' (Ok tt)
     two_passed u = record { told = all_six true u }
 
-    pub two_failed : r ≡ false → Verdict 2 x P' NotFinite
+    pub two_failed : r ≡ false → Verdict 2 x P' (Err NotFinite)
     two_failed u = record { told = all_six false u }

@@ -5,9 +5,9 @@ use mathlib.Core.List.{List, [], ◌∷◌, ◌++◌}
 use Prim.Native.Nat.{ℕ, ◌*◌}
 use lib.ListN.{length}
 use lib.Ieee.{Float, Format}
-use Rattle.answers.specs.declared.Answer.{Answer}
-use Rattle.answers.specs.declared.Answer.TheVariants.{Done, Pivot, NotFinite}
-use Rattle.answers.specs.Answers.{is_done, first_of}
+use Rattle.std.proofs.Common.{Ok, Err}
+use Rattle.answers.specs.declared.Refusal.TheVariants.{Pivot, NotFinite}
+use Rattle.answers.specs.Answers.{is_done, first_of, Answer}
 use Rattle.answers.specs.Tests.{lent}
 use Rattle.answers.specs.Exactly.{holds}
 use Rattle.answers.proofs.Table.{passed, passes}
@@ -38,7 +38,7 @@ correct_unique p q = renewed_unique p.renewed q.renewed (p.y_after ∙ sym q.y_a
 
 -- ---- refusal 4 keeps x, P, K, temp_S_inv, temp_PHt and temp_KHP
 
-renewed_4 : {f : Format} {n m : ℕ} {g v : Answer} (b : Buffers) {e : Buffers} (y : List Float) (i : ℕ) → Renewed f n m g v b e → is_done g ≡ true → v ≡ Pivot i → e.y ≡ y → Kept4 f n m y b e
+renewed_4 : {f : Format} {n m : ℕ} {g v : Answer} (b : Buffers) {e : Buffers} (y : List Float) (i : ℕ) → Renewed f n m g v b e → is_done g ≡ true → v ≡ Err (Pivot i) → e.y ≡ y → Kept4 f n m y b e
 renewed_4 {f} {n} {m} {g} b y i r past q s =
     let no = ap is_done q in
     let stopped : is_done (first_of g (pivots_answer f n m b)) ≡ false = ap is_done (goes_on g (pivots_answer f n m b) past ∙ sym (told_by_pivots r past i q) ∙ q) in
@@ -55,19 +55,19 @@ renewed_4 {f} {n} {m} {g} b y i r past q s =
     }
 
 -- the correction's y is the innovation
-pub refusal_4_keeps : {f : Format} {n m : ℕ} (b : Buffers) {v : Answer} {e : Buffers} (i : ℕ) → Corrected f n m b v e → is_done (correct_answer n m b) ≡ true → v ≡ Pivot i → Kept4 f n m (innovation_in f n m b) b e
+pub refusal_4_keeps : {f : Format} {n m : ℕ} (b : Buffers) {v : Answer} {e : Buffers} (i : ℕ) → Corrected f n m b v e → is_done (correct_answer n m b) ≡ true → v ≡ Err (Pivot i) → Kept4 f n m (innovation_in f n m b) b e
 refusal_4_keeps {f} {n} {m} b {v} {e} i c past q =
     let k = renewed_4 {g = correct_answer n m b} (with_y b (innovated f n m b)) (innovation_in f n m b) i c.renewed past q (rw past at c.y_after) in
     record { x = k.x; P = k.P; K = k.K; s_inv = k.s_inv; PHt = k.PHt; KHP = k.KHP; y_is = k.y_is; HP = k.HP; S = k.S }
 
 -- the update's y is as lent
-pub update_refusal_4_keeps : {f : Format} {n m : ℕ} (b : Buffers) {v : Answer} {e : Buffers} (i : ℕ) → Updated f n m b v e → is_done (update_answer n m b) ≡ true → v ≡ Pivot i → Kept4 f n m b.y b e
+pub update_refusal_4_keeps : {f : Format} {n m : ℕ} (b : Buffers) {v : Answer} {e : Buffers} (i : ℕ) → Updated f n m b v e → is_done (update_answer n m b) ≡ true → v ≡ Err (Pivot i) → Kept4 f n m b.y b e
 update_refusal_4_keeps b i u past q = renewed_4 b b.y i u.renewed past q u.y_after
 
 -- ---- refusal 9 keeps x and P, and leaves the seven others as the accepted call does
 
 -- past the gate and the pivots the seven go by neither v nor what x and P would become
-renewed_worked : {f : Format} {n m : ℕ} {g v : Answer} (b : Buffers) {e : Buffers} (y : List Float) → Renewed f n m g v b e → is_done g ≡ true → pivots_answer f n m b ≡ Done → e.y ≡ y → Worked f n m y b e
+renewed_worked : {f : Format} {n m : ℕ} {g v : Answer} (b : Buffers) {e : Buffers} (y : List Float) → Renewed f n m g v b e → is_done g ≡ true → pivots_answer f n m b ≡ Ok tt → e.y ≡ y → Worked f n m y b e
 renewed_worked {f} {n} {m} {g} b y r past q s =
     let taken : is_done (first_of g (pivots_answer f n m b)) ≡ true = ap is_done (goes_on g (pivots_answer f n m b) past ∙ q) in
     record {
@@ -80,7 +80,7 @@ renewed_worked {f} {n} {m} {g} b y r past q s =
       KHP = rw taken at r.khp_after;
     }
 
-renewed_9 : {f : Format} {n m : ℕ} {g v : Answer} (b : Buffers) {e : Buffers} (y : List Float) → Renewed f n m g v b e → is_done g ≡ true → pivots_answer f n m b ≡ Done → v ≡ NotFinite → e.y ≡ y → Kept9 f n m y b e
+renewed_9 : {f : Format} {n m : ℕ} {g v : Answer} (b : Buffers) {e : Buffers} (y : List Float) → Renewed f n m g v b e → is_done g ≡ true → pivots_answer f n m b ≡ Ok tt → v ≡ Err NotFinite → e.y ≡ y → Kept9 f n m y b e
 renewed_9 b y r past taken q s =
     let no = ap is_done q in
     record { x = rw no at r.x_after; P = rw no at r.p_after; worked = renewed_worked b y r past taken s }
@@ -91,13 +91,13 @@ heard b given y w = record { y_is = w.y_is; HP = w.HP; S = w.S; s_inv = w.s_inv;
 
 module _ {f : Format} {n m : ℕ} (b : Buffers) {v : Answer} {e : Buffers} where
   -- The correction that is done leaves these in the seven, y being the innovation ..
-  pub correct_done_leaves : Corrected f n m b v e → v ≡ Done → Worked f n m (innovation_in f n m b) b e
+  pub correct_done_leaves : Corrected f n m b v e → v ≡ Ok tt → Worked f n m (innovation_in f n m b) b e
   correct_done_leaves c q =
       let d = all_passed c.renewed q in
       heard b (innovated f n m b) (innovation_in f n m b) (renewed_worked (with_y b (innovated f n m b)) (innovation_in f n m b) c.renewed d.0 d.1 (rw d.0 at c.y_after))
 
   -- .. and the one that is refused with 9 the same, with x and P as lent.
-  pub refusal_9_keeps : Corrected f n m b v e → v ≡ NotFinite → Kept9 f n m (innovation_in f n m b) b e
+  pub refusal_9_keeps : Corrected f n m b v e → v ≡ Err NotFinite → Kept9 f n m (innovation_in f n m b) b e
   refusal_9_keeps c q =
       let w = correct_only_9 f n m b v e c q in
       let taken = done_where_taken f m (covariance f n m b) (pivots_answer f n m b) refl w.1 in
@@ -105,10 +105,10 @@ module _ {f : Format} {n m : ℕ} (b : Buffers) {v : Answer} {e : Buffers} where
       record { x = k.x; P = k.P; worked = heard b (innovated f n m b) (innovation_in f n m b) k.worked }
 
   -- So the update, whose y is as lent.
-  pub update_done_leaves : Updated f n m b v e → v ≡ Done → Worked f n m b.y b e
+  pub update_done_leaves : Updated f n m b v e → v ≡ Ok tt → Worked f n m b.y b e
   update_done_leaves u q = let d = all_passed u.renewed q in renewed_worked b b.y u.renewed d.0 d.1 u.y_after
 
-  pub update_refusal_9_keeps : Updated f n m b v e → v ≡ NotFinite → Kept9 f n m b.y b e
+  pub update_refusal_9_keeps : Updated f n m b v e → v ≡ Err NotFinite → Kept9 f n m b.y b e
   update_refusal_9_keeps u q =
       let w = update_only_9 f n m b v e u q in
       renewed_9 b b.y u.renewed w.0 (done_where_taken f m (covariance f n m b) (pivots_answer f n m b) refl w.1) q u.y_after

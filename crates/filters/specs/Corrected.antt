@@ -1,9 +1,8 @@
 -- What the innovation, the update and the correction promise (R6, R18 to R20): the answer, and every number of each of the twelve buffers. Definitions only.
-use Rattle.std.specs.Prelude.{◌≡◌, cond, ◌&&◌, List, ℕ, length, Float}
+use Rattle.std.specs.Prelude.{◌≡◌, cond, ◌&&◌, List, ℕ, length, Float, Ok, Err}
 use Rattle.std.specs.Float.{Format}
-use Rattle.answers.specs.declared.Answer.{Answer}
-use Rattle.answers.specs.declared.Answer.TheVariants.{Done, NotFinite}
-use Rattle.answers.specs.Answers.{first_of, settled}
+use Rattle.answers.specs.declared.Refusal.TheVariants.{NotFinite}
+use Rattle.answers.specs.Answers.{first_of, settled, Answer}
 use Rattle.numbers.specs.Finite.{all_finite, entries_finite}
 use Rattle.grids.specs.Grid.{cell, run, grid}
 use Rattle.entries.specs.Entries.{numbers}
@@ -33,7 +32,7 @@ pivots_answer f n m b = pivot_answer (pivot_of f n m (cell n b.H) (cell n b.P) (
 
 -- refusal 9 where some number of the new x, or some entry of the new P, is not finite
 abbrev pub finite_answer : ℕ → (ℕ → Float) → (ℕ → ℕ → Float) → Answer
-finite_answer n x P = cond (all_finite n x && entries_finite n P) Done NotFinite
+finite_answer n x P = cond (all_finite n x && entries_finite n P) (Ok tt) (Err NotFinite)
 
 -- What the update from the y in the buffers b leaves in the buffers e, g being the answer to refusals 1 and 2 and v the call's.
 -- Past 1 and 2 temp_HP and S are written, whatever the pivots are; past 4 temp_S_inv, temp_PHt, K and temp_KHP, whatever x and P would become.

@@ -1,6 +1,6 @@
 -- The buffers that a correction lends, in the order of R5, and the answers of its calls to refusals 1 and 2. Definitions only.
 use Rattle.std.specs.Prelude.{List, [], ◌∷◌, ◌++◌, ℕ, ◌*◌, ◌≤◌, length, Float}
-use Rattle.answers.specs.declared.Answer.{Answer}
+use Rattle.answers.specs.Answers.{Answer}
 use Rattle.answers.specs.Tests.{Lent, lent, call_answer}
 
 -- the twelve

@@ -2,7 +2,7 @@
 use Rattle.std.specs.Prelude.{◌≡◌, true, false, ◌⊎◌, List, ℕ, ◌<◌, Float}
 use Rattle.std.specs.Float.{Format}
 use Rattle.std.specs.Float.Ieee.Scale.{finite}
-use Rattle.answers.specs.declared.Answer.{Answer}
+use Rattle.answers.specs.Answers.{Answer}
 use Rattle.grids.specs.Grid.{cell, grid}
 use Rattle.factors.specs.Pivots.{pivot_taken}
 use Rattle.factors.specs.Decomposition.{pivot_at}

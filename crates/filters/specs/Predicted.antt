@@ -1,8 +1,7 @@
 -- What the predictions promise (R6, R17), buffers in the order of R5: the answer, and every number of each buffer that they write. Definitions only.
 use Rattle.std.specs.Prelude.{◌≡◌, List, [], ◌∷◌, ℕ, ◌*◌, length, Float}
 use Rattle.std.specs.Float.{Format}
-use Rattle.answers.specs.declared.Answer.{Answer}
-use Rattle.answers.specs.Answers.{settled}
+use Rattle.answers.specs.Answers.{settled, Answer}
 use Rattle.answers.specs.Tests.{lent, call_answer}
 use Rattle.grids.specs.Grid.{run, grid}
 use Rattle.filters.specs.Prediction.{predicted_x, temp_p, predicted_p}

@@ -2,7 +2,7 @@
 // sizes and buffers; not for users. Sums and differences are tested before anything is stored.
 #![tactic(auto)]
 
-ghost use Rattle.std.specs.Prelude.{◌≡◌, ◌&&◌, ◌≤◌, length, get_or};
+ghost use Rattle.std.specs.Prelude.{◌≡◌, ◌&&◌, ◌≤◌, length, get_or, Float};
 ghost use Rattle.std.specs.Float.{binary32, nan};
 ghost use Rattle.std.specs.Float.Ieee.{add, sub};
 ghost use Rattle.std.specs.Float.Ieee.Scale.{finite};
@@ -36,20 +36,26 @@ pub fn four(a: f32, b: f32, c: f32, d: f32) -> bool
     also(also(two(a, b), c), d)
 }
 
+// Whether what op makes of each a and b of the first n cells is.
+#[tactic(auto, using(numbers::proofs::Every::every_none, numbers::proofs::Every::every_more))]
+fn pairs_finite<F: Fn(f32, f32) -> f32>(n: usize, a: &[f32], b: &[f32], op: F) -> bool
+    requires lent { (n ≤ length a.now) × (n ≤ length b.now) }
+    requires callable { F.IsAlwaysCallable op }
+    ensures { (g : Float → Float → Float) → ((x y r : Float) → F.post op x y r → r ≡ g x y) → result ≡ all_finite n (λ i. g (get_or a.now i nan) (get_or b.now i nan)) }
+{
+    let mut all = true;
+    for i in 0..n {
+        all = also(all, op(a[i], b[i]));
+    }
+    all
+}
+
 // Whether each a + b of the first n cells is.
 pub fn sums_finite(n: usize, a: &[f32], b: &[f32]) -> bool
     requires { (n ≤ length a.now) × (n ≤ length b.now) }
     ensures { result ≡ all_finite n (λ i. add binary32 (get_or a.now i nan) (get_or b.now i nan)) }
 {
-    let mut all = true;
-    let mut i: usize = 0;
-    while i < n {
-        if !is_finite(a[i] + b[i]) {
-            all = false;
-        }
-        i += 1;
-    }
-    all
+    pairs_finite(n, a, b, |x, y| x + y)
 }
 
 // Whether each a − b of the first n cells is.
@@ -57,13 +63,5 @@ pub fn differences_finite(n: usize, a: &[f32], b: &[f32]) -> bool
     requires { (n ≤ length a.now) × (n ≤ length b.now) }
     ensures { result ≡ all_finite n (λ i. sub binary32 (get_or a.now i nan) (get_or b.now i nan)) }
 {
-    let mut all = true;
-    let mut i: usize = 0;
-    while i < n {
-        if !is_finite(a[i] - b[i]) {
-            all = false;
-        }
-        i += 1;
-    }
-    all
+    pairs_finite(n, a, b, |x, y| x - y)
 }

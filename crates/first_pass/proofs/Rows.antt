@@ -11,7 +11,7 @@ use Rattle.numbers.specs.Reciprocal.{one, recip_of}
 use Rattle.grids.specs.Grid.{cell, run}
 use Rattle.grids.proofs.Grids.{inside, run_before}
 use Rattle.grids.proofs.Loops.{Writing, all_written}
-use Rattle.grids.proofs.Turns.{one_more}
+use Rattle.grids.proofs.Turns.{put4, one_more, four_more}
 use Rattle.factors.specs.Inverse.{plus_sum, unit_at}
 use Rattle.factors.proofs.Upward.{plus_ext}
 use Rattle.first_pass.specs.Below.{term, all_terms, solved_cell}
@@ -50,18 +50,22 @@ module _ (f : Format) (n : ℕ) (l z : List Float) (i : ℕ) (hi : i < n) where
       let terms : ℕ → Float = λ k. term f n l z i c (c + k) in
       v ∙ ap₂ (mul f) (t ∙ terms_unread z' j w c ∙ ap (λ (s : Float). plus_sum f s terms (i - c)) (sym (left_start c h))) d
 
-  -- four of them
-  pub four-solved :
-      (z' : List Float) (j : ℕ) → Row z' j → j + 4 ≤ i → {d t0 t1 t2 t3 v0 v1 v2 v3 : Float} → d ≡ recip_of f (cell n l i i)
+  -- four of them, from the cell 4·k on
+  pub four_more_solved :
+      (z' : List Float) (k : ℕ) → Row z' (k * 4) → k * 4 + 4 ≤ i → {z'' : List Float} {d t0 t1 t2 t3 v0 v1 v2 v3 : Float} → d ≡ recip_of f (cell n l i i)
       → (v0 ≡ mul f t0 d) × (v1 ≡ mul f t1 d) × (v2 ≡ mul f t2 d) × (v3 ≡ mul f t3 d)
-      → (t0 ≡ all_terms f n l z' i j) × (t1 ≡ all_terms f n l z' i (j + 1)) × (t2 ≡ all_terms f n l z' i (j + 2)) × (t3 ≡ all_terms f n l z' i (j + 3))
-      → (v0 ≡ solved_cell f n l z i j) × (v1 ≡ solved_cell f n l z i (j + 1)) × (v2 ≡ solved_cell f n l z i (j + 2)) × (v3 ≡ solved_cell f n l z i (j + 3))
-  four-solved z' j w h d v t = (
-    cell-solved z' j w j (omega arith) d v.0 t.0,
-    cell-solved z' j w (j + 1) (omega arith) d v.1 t.1,
-    cell-solved z' j w (j + 2) (omega arith) d v.2 t.2,
-    cell-solved z' j w (j + 3) (omega arith) d v.3 t.3,
-  )
+      → (t0 ≡ all_terms f n l z' i (k * 4)) × (t1 ≡ all_terms f n l z' i (k * 4 + 1)) × (t2 ≡ all_terms f n l z' i (k * 4 + 2)) × (t3 ≡ all_terms f n l z' i (k * 4 + 3))
+      → z'' ≡ put4 z' (i * n + k * 4) v0 v1 v2 v3
+      → Row z'' ((k + 1) * 4)
+  four_more_solved z' k w h {z''} d v t q =
+      let next : k * 4 + 4 ≡ (k + 1) * 4 = omega arith in
+      subst (Row z'') next
+      (four_more w (omega arith) refl (
+        cell-solved z' (k * 4) w (k * 4) (omega arith) d v.0 t.0,
+        cell-solved z' (k * 4) w (k * 4 + 1) (omega arith) d v.1 t.1,
+        cell-solved z' (k * 4) w (k * 4 + 2) (omega arith) d v.2 t.2,
+        cell-solved z' (k * 4) w (k * 4 + 3) (omega arith) d v.3 t.3,
+      ) q)
 
   -- the diagonal's own cell ends the row
   pub row_solved :

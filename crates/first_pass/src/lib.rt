@@ -17,16 +17,14 @@ fn solve_row(n: usize, i: usize, l: &[f32], inv: &mut [f32])
     ensures { inv.new ≡ run (i * n) (i + 1) (solved_cell binary32 n l.now inv.old i) inv.old }
 {
     let d = data_type::recip(l[i * n + i]);
-    let mut j: usize = 0;
-    while j + 4 <= i {
-        let t = sums::four_sums(n, i, j, &*l, inv);
-        side_by_side::put(inv, i * n + j, side_by_side::scaled(t, d));
-        j += 4;
+    let fours = i / 4;
+    for f in 0..fours {
+        let t = sums::four_sums(n, i, f * 4, &*l, inv);
+        side_by_side::put(inv, i * n + f * 4, side_by_side::scaled(t, d));
     }
-    while j < i {
+    for j in fours * 4..i {
         let t = sums::one_sum(n, i, j, &*l, inv);
         inv[i * n + j] = t * d;
-        j += 1;
     }
     inv[i * n + i] = 1.0 * d;
 }
@@ -36,9 +34,7 @@ pub fn solve(n: usize, l: &[f32], inv: &mut [f32])
     requires { (n * n ≤ length l.now) × (n * n ≤ length inv.old) }
     ensures { inv.new ≡ grid n n (solved_below binary32 (cell n l.now) (cell n inv.old) n) inv.old }
 {
-    let mut i: usize = 0;
-    while i < n {
+    for i in 0..n {
         solve_row(n, i, &*l, inv);
-        i += 1;
     }
 }

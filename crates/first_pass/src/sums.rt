@@ -1,5 +1,5 @@
-// The sums of a row's cells, one by one and four side by side. Each begins with its first term, and is
-// then added to +0.
+// The sums of a row's cells, one by one and four side by side: two functions, so that the four stay in
+// registers. Each begins with its first term, and is then added to +0.
 ghost use Rattle.std.specs.Prelude.{◌≡◌, ◌+◌, ◌*◌, ◌<◌, ◌≤◌, length};
 ghost use Rattle.std.specs.Float.{binary32};
 ghost use Rattle.side_by_side.specs.Chunks.{Chunk};
@@ -14,10 +14,8 @@ pub fn one_sum(n: usize, i: usize, j: usize, l: &[f32], inv: &[f32]) -> f32
 {
     let row = i * n;
     let mut sum = -l[row + j] * inv[j * n + j];
-    let mut k = j + 1;
-    while k < i {
+    for k in j + 1..i {
         sum = sum + -l[row + k] * inv[k * n + j];
-        k += 1;
     }
     0.0 + sum
 }
@@ -53,10 +51,8 @@ pub fn four_sums(n: usize, i: usize, j: usize, l: &[f32], inv: &[f32]) -> Four
     ensures { Chunk (all_terms binary32 n l.now inv.now i) j result }
 {
     let mut t = triangle(n, i, j, &*l, &*inv);
-    let mut k = j + 4;
-    while k < i {
+    for k in j + 4..i {
         t = side_by_side::more(t, -l[i * n + k], &*inv, k * n + j);
-        k += 1;
     }
     Four {
         t0: 0.0 + t.t0,

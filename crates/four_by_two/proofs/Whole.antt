@@ -10,9 +10,9 @@ use lib.Ieee.{Float, binary32}
 use Rattle.side_by_side.specs.declared.Four.{Four}
 use Rattle.side_by_side.specs.declared.Eight.{Eight}
 use Rattle.side_by_side.specs.declared.Sixteen.{Sixteen}
-use Rattle.answers.specs.declared.Answer.{Answer}
-use Rattle.answers.specs.declared.Answer.TheVariants.{Done, Pivot, NotFinite}
-use Rattle.answers.specs.Answers.{settled}
+use Rattle.std.proofs.Common.{Ok, Err}
+use Rattle.answers.specs.declared.Refusal.TheVariants.{Pivot, NotFinite}
+use Rattle.answers.specs.Answers.{settled, Answer}
 use Rattle.numbers.specs.Reciprocal.{recip_of}
 use Rattle.numbers.specs.Sums.{sum_from}
 use Rattle.grids.specs.Grid.{cell, run, grid}
@@ -113,7 +113,7 @@ module _ {b : Buffers} {z : List Float} {o : Operands} {s : Seen} {root : Root} 
   pub refused :
       (e : Buffers) → root.taken < 2 → e.HP ≡ grid 2 4 (in_wide s.g) b.HP → e.S ≡ run 0 4 (in_four root.l) b.S
       → e.s_inv ≡ b.s_inv → e.PHt ≡ b.PHt → e.K ≡ b.K → e.x ≡ b.x → e.KHP ≡ b.KHP → e.P ≡ b.P
-      → Renewed binary32 4 2 Done (Pivot root.taken) b e
+      → Renewed binary32 4 2 (Ok tt) (Err (Pivot root.taken)) b e
   refused e h vg vs vi vt vk vx vh vp =
       pivot_refused binary32 4 2 b e root.taken h taken_is (hp_left b.HP e.HP vg) (s_left b.S e.S vs) vi vt vk vx vh vp
 
@@ -132,9 +132,9 @@ module _ {b : Buffers} {z : List Float} {o : Operands} {s : Seen} {root : Root} 
     abbrev G : ℕ → ℕ → Float
     G = gain_of binary32 4 2 H P R I
 
-    told : pivots_answer binary32 4 2 b ≡ Done
+    told : pivots_answer binary32 4 2 b ≡ Ok tt
     told =
-        let none : pivot_answer root.taken 2 ≡ Done = simp (le-ltb root.taken 2 h) in
+        let none : pivot_answer root.taken 2 ≡ Ok tt = simp (le-ltb root.taken 2 h) in
         ap (λ (k : ℕ). pivot_answer k 2) (sym taken_is) ∙ none
 
     i_is : inverse_in o s root ≡ square (inverse_of binary32 4 2 H P R I)
@@ -159,14 +159,14 @@ module _ {b : Buffers} {z : List Float} {o : Operands} {s : Seen} {root : Root} 
         ap₂ (λ (x : Four) (k : Eight). moved x k s.y0 s.y1) x_read k_is
         ∙ ap₂ (moved (four (numbers b.x)) (tall G)) y0_read y1_read ∙ moved_of (numbers b.x) G (numbers b.y)
 
-    fine_is : cond (fine (new_x_in o s root) (new_p_in o s root)) Done NotFinite ≡ finite_answer 4 (next_x binary32 4 2 b) (next_p binary32 4 2 b)
+    fine_is : cond (fine (new_x_in o s root) (new_p_in o s root)) (Ok tt) (Err NotFinite) ≡ finite_answer 4 (next_x binary32 4 2 b) (next_p binary32 4 2 b)
     fine_is =
-        ap₂ (λ (x : Four) (p : Sixteen). cond (fine x p) Done NotFinite) w_is n_is
-        ∙ ap (λ (t : Bool). cond t Done NotFinite) (fine_of (next_x binary32 4 2 b) (next_p binary32 4 2 b))
+        ap₂ (λ (x : Four) (p : Sixteen). cond {A = Answer} (fine x p) (Ok tt) (Err NotFinite)) w_is n_is
+        ∙ ap (λ (t : Bool). cond {A = Answer} t (Ok tt) (Err NotFinite)) (fine_of (next_x binary32 4 2 b) (next_p binary32 4 2 b))
 
     pub renewed :
         (v : Answer) (e : Buffers) → Finished o s root v (late b) (late e) → e.HP ≡ grid 2 4 (in_wide s.g) b.HP → e.S ≡ run 0 4 (in_four root.l) b.S
-        → Renewed binary32 4 2 Done v b e
+        → Renewed binary32 4 2 (Ok tt) v b e
     renewed v e done vg vs = record {
       answer = rw told (done.answer ∙ fine_is);
       hp_after = hp_left b.HP e.HP vg;

@@ -6,14 +6,13 @@
 
 ghost use Rattle.std.specs.Prelude.{◌≡◌, [], ◌≤◌, length};
 ghost use Rattle.std.specs.Float.{binary32};
-ghost use Rattle.answers.specs.declared.Answer.TheVariants.{Done};
 ghost use Rattle.grids.specs.Grid.{cell, run};
 ghost use Rattle.entries.specs.Entries.{numbers};
 ghost use Rattle.filters.specs.Correction.{innovation_of};
 ghost use Rattle.filters.specs.Lent.{buffers, Held};
 ghost use Rattle.filters.specs.Corrected.{Renewed};
 
-use answers::Answer;
+use answers::{Answer, Refusal};
 
 // Four states, two observations: done, the pivot that is refused, or 9 where the new x or P is not all
 // finite.
@@ -33,7 +32,7 @@ pub fn correct_four(
 ) -> Answer
     requires { Held 4 2 (buffers x.old p.old h.now [] r.now y.old s.old k.old temp_s_inv.old temp_hp.old temp_pht.old temp_khp.old) × (2 ≤ length z.now) }
     ensures y { y.new ≡ run 0 2 (innovation_of binary32 4 (cell 4 h.now) (numbers x.old) (numbers z.now)) y.old }
-    ensures renewed { Renewed binary32 4 2 Done result
+    ensures renewed { Renewed binary32 4 2 (Ok tt) result
         (buffers x.old p.old h.now [] r.now y.new s.old k.old temp_s_inv.old temp_hp.old temp_pht.old temp_khp.old)
         (buffers x.new p.new h.now [] r.now y.new s.new k.new temp_s_inv.new temp_hp.new temp_pht.new temp_khp.new) }
 {
@@ -44,7 +43,7 @@ pub fn correct_four(
     let root = four_stages::decompose(seen.s);
     side_by_side::put(s, 0, root.l);
     if root.taken < 2 {
-        return Answer::Pivot(root.taken);
+        return Err(Refusal::Pivot(root.taken));
     }
     four_renewals::finish(b, seen, root, x, p, k, temp_s_inv, temp_pht, temp_khp)
 }

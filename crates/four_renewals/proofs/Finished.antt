@@ -4,9 +4,9 @@ use mathlib.Core.Bool.{cond}
 use Rattle.side_by_side.specs.declared.Four.{Four}
 use Rattle.side_by_side.specs.declared.Eight.{Eight}
 use Rattle.side_by_side.specs.declared.Sixteen.{Sixteen}
-use Rattle.answers.specs.declared.Answer.{Answer}
-use Rattle.answers.specs.declared.Answer.TheVariants.{Done, NotFinite}
-use Rattle.answers.specs.Answers.{settled}
+use Rattle.std.proofs.Common.{Ok, Err}
+use Rattle.answers.specs.declared.Refusal.TheVariants.{NotFinite}
+use Rattle.answers.specs.Answers.{settled, Answer}
 use Rattle.grids.specs.Grid.{run, grid}
 use Rattle.filters.specs.Lent.{Buffers}
 use Rattle.four_values.specs.Values.{in_four, in_wide, in_large}
@@ -33,12 +33,12 @@ module _
   w_in = qw ∙ ap (λ (j : Eight). moved b.x j s.y0 s.y1) k_in
 
   pub finished :
-      (v : Answer) (l e : Buffers) → v ≡ cond (fine w n) Done NotFinite
+      (v : Answer) (l e : Buffers) → v ≡ cond (fine w n) (Ok tt) (Err NotFinite)
       → e.s_inv ≡ run 0 4 (in_four i) l.s_inv → e.PHt ≡ grid 2 4 (in_wide f) l.PHt → e.K ≡ grid 2 4 (in_wide k) l.K → e.KHP ≡ grid 4 4 (in_large t) l.KHP
       → e.x ≡ settled v (run 0 4 (in_four w) l.x) l.x → e.P ≡ settled v (grid 4 4 (in_large n) l.P) l.P
       → Finished b s root v l e
   finished v l e a vi vf vk vt vx vp = record {
-    answer = a ∙ ap₂ (λ (x : Four) (p : Sixteen). cond (fine x p) Done NotFinite) w_in n_in;
+    answer = a ∙ ap₂ (λ (x : Four) (p : Sixteen). cond {A = Answer} (fine x p) (Ok tt) (Err NotFinite)) w_in n_in;
     s_inv_after = vi ∙ ap (λ (x : Four). run 0 4 (in_four x) l.s_inv) qg.0;
     pht_after = vf ∙ ap (λ (x : Eight). grid 2 4 (in_wide x) l.PHt) qg.1;
     k_after = vk ∙ ap (λ (x : Eight). grid 2 4 (in_wide x) l.K) k_in;

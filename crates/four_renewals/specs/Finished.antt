@@ -1,11 +1,10 @@
 -- What the correction of four states by two observations leaves past the pivots, in the buffers e of those in l. Definitions only.
-use Rattle.std.specs.Prelude.{◌≡◌, cond}
+use Rattle.std.specs.Prelude.{◌≡◌, cond, Ok, Err}
 use Rattle.side_by_side.specs.declared.Four.{Four}
 use Rattle.side_by_side.specs.declared.Eight.{Eight}
 use Rattle.side_by_side.specs.declared.Sixteen.{Sixteen}
-use Rattle.answers.specs.declared.Answer.{Answer}
-use Rattle.answers.specs.declared.Answer.TheVariants.{Done, NotFinite}
-use Rattle.answers.specs.Answers.{settled}
+use Rattle.answers.specs.declared.Refusal.TheVariants.{NotFinite}
+use Rattle.answers.specs.Answers.{settled, Answer}
 use Rattle.grids.specs.Grid.{run, grid}
 use Rattle.filters.specs.Lent.{Buffers}
 use Rattle.four_values.specs.Values.{in_four, in_wide, in_large}
@@ -31,7 +30,7 @@ module _ (b : Operands) (s : Seen) (root : Root) where
   new_x_in = moved b.x gain_in s.y0 s.y1
 
   pub record Finished (v : Answer) (l e : Buffers) : Type 0 where
-    pub answer : v ≡ cond (fine new_x_in new_p_in) Done NotFinite
+    pub answer : v ≡ cond (fine new_x_in new_p_in) (Ok tt) (Err NotFinite)
     pub s_inv_after : e.s_inv ≡ run 0 4 (in_four inverse_in) l.s_inv
     pub pht_after : e.PHt ≡ grid 2 4 (in_wide (crossed b.p b.h)) l.PHt
     pub k_after : e.K ≡ grid 2 4 (in_wide gain_in) l.K

@@ -7,7 +7,7 @@ ghost use Rattle.std.specs.Prelude.{[], ◌≤◌, length};
 ghost use Rattle.filters.specs.Lent.{buffers};
 ghost use Rattle.four_renewals.specs.Finished.{Finished};
 
-use answers::Answer;
+use answers::{Answer, Refusal};
 use four_stages::{Operands, Root, Seen};
 
 // Past the pivots: the inverse, P·Hᵀ, the gain and its product with H·P, and x and P where they are finite.
@@ -38,7 +38,7 @@ pub fn finish(
     if four_stages::is_fine(w, n) {
         side_by_side::put(x, 0, w);
         four_values::put_sixteen(p, n);
-        return Answer::Done;
+        return Ok(());
     }
-    Answer::NotFinite
+    Err(Refusal::NotFinite)
 }

@@ -3,8 +3,7 @@ use mathlib.Core.Path.{◌≡◌, sym, ◌∙◌}
 use mathlib.Core.Bool.{Bool, true, false}
 use mathlib.Core.List.{List}
 use lib.Ieee.{Float}
-use Rattle.answers.specs.declared.Answer.{Answer}
-use Rattle.answers.specs.Answers.{is_done, settled}
+use Rattle.answers.specs.Answers.{is_done, settled, Answer}
 
 module _ {v w : Answer} {b : Bool} where
   -- Where it is done the buffer holds the new numbers.

@@ -4,6 +4,7 @@ use mathlib.Core.Logic.{◌⊎◌, inl, inr, ⊎_elim}
 use mathlib.Core.List.{List}
 use Prim.Native.Nat.{ℕ, zero, suc, ◌+◌, ◌-◌, ◌*◌, ◌/◌, ◌%◌, ◌<◌, ◌≤◌}
 use native.Mathlib.Nat.{zero-mul, zero-add, suc-mul, add-suc, add_assoc, add-zero, mul-le-mul_right, not-suc-le-zero, le_of_suc-le-suc, eq-or-lt_of_le, div-lt_iff_lt-mul, mod-lt, div-add-mod'}
+use native.Mathlib.Numerals.{add-one}
 use native.Mathlib.Decide.{dec_lt, ℕ_discrete}
 use native.Mathlib.Omega.{arith}
 use borrow.Author.Tests.{eq-eqb, ne_eqb}
@@ -31,6 +32,19 @@ pub part_length : (p : ℕ) (l : List Float) → length (take (length l - p) (dr
 part_length p l = ap length (part_rest p l) ∙ length-drop p l
 
 -- ---- runs
+
+-- a run of no cell, and of one more
+pub run_none : (at : ℕ) (g : ℕ → Float) (l : List Float) → run at 0 g l ≡ l
+unfolding run
+run_none at g l = refl
+
+pub run_more : (at n : ℕ) (g : ℕ → Float) (l : List Float) → run at (n + 1) g l ≡ set (run at n g l) (at + n) (g n)
+unfolding run
+run_more at n g l = rw add-one
+
+-- a run of one cell more, at its place p
+pub cell_more : (at n p : ℕ) (g : ℕ → Float) (l₀ l : List Float) (v : Float) → l ≡ run at n g l₀ → p ≡ at + n → v ≡ g n → set l p v ≡ run at (n + 1) g l₀
+cell_more at n p g l₀ l v e q s = rw (e, q, s, run_more at n g l₀)
 
 -- a run keeps the length
 pub length_run : (at n : ℕ) (g : ℕ → Float) (l : List Float) → length (run at n g l) ≡ length l
@@ -105,6 +119,15 @@ run-add at n (suc m) g l = rw (add-suc, run-add at n m g l, add_assoc)
 
 -- ---- grids
 
+-- a grid of no row, and of one more
+pub grid_none : (cols : ℕ) (e : ℕ → ℕ → Float) (l : List Float) → grid 0 cols e l ≡ l
+unfolding grid
+grid_none cols e l = refl
+
+pub grid_more : (rows cols : ℕ) (e : ℕ → ℕ → Float) (l : List Float) → grid (rows + 1) cols e l ≡ run (rows * cols) cols (e rows) (grid rows cols e l)
+unfolding grid
+grid_more rows cols e l = rw add-one
+
 -- a grid keeps the length
 pub length-grid : (rows cols : ℕ) (e : ℕ → ℕ → Float) (l : List Float) → length (grid rows cols e l) ≡ length l
 unfolding grid
@@ -157,7 +180,7 @@ grid_flat (suc n) cols h l = rw (grid_flat n cols h l, suc-mul, run-add 0 (n * c
 -- ---- the grid as the one list with its length, its entries and its rest
 
 -- a number is below another or not
-below_or : (i n : ℕ) → (i < n) ⊎ (n ≤ i)
+pub below_or : (i n : ℕ) → (i < n) ⊎ (n ≤ i)
 below_or i n = elim (dec_lt i n) [ yes h ↦ inl h | no h ↦ inr (omega arith) ]
 
 -- a buffer with the length, the entries and the rest of a grid is that grid

@@ -2,7 +2,9 @@
 pub mod Grids
 pub mod Calls
 pub mod Loops
+pub mod Fronts
 pub mod Turns
+pub mod Combined
 pub mod Overlap
 pub mod Steps
 pub mod Diagonals

@@ -5,8 +5,7 @@ use mathlib.Core.Bool.{Bool, true, false}
 use mathlib.Core.List.{[], ◌∷◌}
 use Prim.Native.Nat.{ℕ, ◌+◌, ◌*◌, ◌≤◌, ◌<◌}
 use native.Mathlib.Omega.{arith}
-use Rattle.answers.specs.declared.Answer.{Answer}
-use Rattle.answers.specs.Answers.{is_done, first_of}
+use Rattle.answers.specs.Answers.{is_done, first_of, Answer}
 use Rattle.answers.specs.Tests.{size_taken, size_test, buffer_test, place_test, lent, row_below, column_below, after_tests}
 use Rattle.answers.proofs.Fit.{fit}
 use Rattle.answers.proofs.Kept.{accepted}

@@ -3,8 +3,7 @@ use mathlib.Core.Path.{◌≡◌}
 use mathlib.Core.Bool.{Bool, true}
 use mathlib.Core.List.{[], ◌∷◌}
 use Prim.Native.Nat.{ℕ, ◌*◌, ◌≤◌}
-use Rattle.answers.specs.declared.Answer.{Answer}
-use Rattle.answers.specs.Answers.{is_done}
+use Rattle.answers.specs.Answers.{is_done, Answer}
 use Rattle.answers.specs.Tests.{lent}
 use Rattle.answers.proofs.Fit.{fit}
 use Rattle.answers.proofs.Kept.{accepted}

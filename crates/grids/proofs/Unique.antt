@@ -3,7 +3,7 @@ use mathlib.Core.Path.{◌≡◌}
 use mathlib.Core.List.{List}
 use Prim.Native.Nat.{ℕ}
 use lib.Ieee.{Float}
-use Rattle.answers.specs.declared.Answer.{Answer}
+use Rattle.answers.specs.Answers.{Answer}
 use Rattle.grids.specs.Sums.{Combined, InPlace}
 use Rattle.grids.specs.Cells.{Set, SetBoth, RowCopied, ColumnCopied, Copied, Filled, DiagonalSet, Comatrix}
 

@@ -1,7 +1,6 @@
 -- What the functions on cells promise (R6, R11): the answer, and every number of each lent buffer afterwards. Definitions only.
 use Rattle.std.specs.Prelude.{◌≡◌, List, [], ◌∷◌, ℕ, ◌+◌, ◌*◌, length, set, Float}
-use Rattle.answers.specs.declared.Answer.{Answer}
-use Rattle.answers.specs.Answers.{settled}
+use Rattle.answers.specs.Answers.{settled, Answer}
 use Rattle.answers.specs.Tests.{lent, row_below, column_below, call_answer}
 use Rattle.grids.specs.Grid.{cell, run, grid, diagonal}
 

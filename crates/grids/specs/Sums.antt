@@ -1,7 +1,6 @@
 -- What the sums and differences promise (R6, R13): an operation on each pair of entries. Definitions only.
 use Rattle.std.specs.Prelude.{◌≡◌, ℕ, ◌*◌, List, [], ◌∷◌, length, Float}
-use Rattle.answers.specs.declared.Answer.{Answer}
-use Rattle.answers.specs.Answers.{settled}
+use Rattle.answers.specs.Answers.{settled, Answer}
 use Rattle.answers.specs.Tests.{lent, call_answer}
 use Rattle.grids.specs.Grid.{cell, grid}
 use Rattle.grids.specs.Cells.{pair_answer}

@@ -1,10 +1,8 @@
 -- A number in whole hundredths. Definitions only.
-use Rattle.std.specs.Prelude.{◌≡◌, Bool, true, false, ℕ, ◌+◌, ◌-◌, ◌*◌, ◌≤◌, ltb, Float}
+use Rattle.std.specs.Prelude.{◌≡◌, Bool, true, false, Option, None, Some, ℕ, ◌+◌, ◌-◌, ◌*◌, ◌≤◌, ltb, Float}
 use Rattle.std.specs.Float.{nan, inf, fin}
 use Rattle.std.specs.Float.Ieee.{up, down}
 use Rattle.std.specs.Float.Ieee.Positive.{num, den}
-use Rattle.hundredths.specs.declared.Hundredths.{Hundredths}
-use Rattle.hundredths.specs.declared.Hundredths.TheVariants.{Of, Beyond}
 
 -- a number from +0 up to 131,072, which is left out
 abbrev pub shown : Float → Bool
@@ -18,7 +16,7 @@ pub record Nearest (v : Float) (h : ℕ) : Type 0 where
   pub over : (2 * h - 1) * den v ≤ 200 * num v
   pub under : 200 * num v ≤ (2 * h + 1) * den v
 
--- v in hundredths: the nearest where v is shown, and otherwise beyond
-abbrev pub InHundredths : Float → Hundredths → Type 0
-InHundredths v (Of h) = (shown v ≡ true) × Nearest v h
-InHundredths v Beyond = shown v ≡ false
+-- v in hundredths: the nearest where v is shown, and otherwise nothing
+abbrev pub InHundredths : Float → Option ℕ → Type 0
+InHundredths v (Some h) = (shown v ≡ true) × Nearest v h
+InHundredths v None = shown v ≡ false

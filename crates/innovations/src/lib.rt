@@ -14,11 +14,9 @@ use answers::Answer;
 pub fn innovation(n: usize, m: usize, x: &[f32], h: &[f32], z: &[f32], y: &mut [f32]) -> Answer
     ensures { Innovated binary32 n m x.now h.now z.now y.old result y.new }
 {
-    let v = observation_gates::innovation(n, m, x.len(), h.len(), z.len(), y.len());
-    if answers::is_done(v) {
-        updates::innovate_cells(n, m, &*x, &*h, &*z, y);
-    }
-    v
+    observation_gates::innovation(n, m, x.len(), h.len(), z.len(), y.len())?;
+    updates::innovate_cells(n, m, &*x, &*h, &*z, y);
+    Ok(())
 }
 
 // x and P after an observation whose innovation is y, with the gain in K and the lower factor of the
@@ -45,7 +43,7 @@ pub fn update_with_innovation(
         result
         (buffers x.new p.new h.now [] r.now y.now s.new k.new temp_s_inv.new temp_hp.new temp_pht.new temp_khp.new) }
 {
-    let v = observation_gates::update(
+    observation_gates::update(
         n,
         m,
         x.len(),
@@ -59,11 +57,8 @@ pub fn update_with_innovation(
         temp_hp.len(),
         temp_pht.len(),
         temp_khp.len(),
-    );
-    if answers::is_done(v) {
-        return corrections::update_cells(
-            n, m, x, p, &*h, &*r, &*y, s, k, temp_s_inv, temp_hp, temp_pht, temp_khp,
-        );
-    }
-    v
+    )?;
+    corrections::update_cells(
+        n, m, x, p, &*h, &*r, &*y, s, k, temp_s_inv, temp_hp, temp_pht, temp_khp,
+    )
 }

@@ -8,6 +8,6 @@ use answers::Answer;
 pub fn squares(n: usize, la: usize, lb: usize) -> Answer
     ensures { result ≡ squares_answer n la lb }
 {
-    let first = answers::then_matrix(answers::then_size(Answer::Done, 0, n), 0, n, n, la);
+    let first = answers::then_matrix(answers::then_size(Ok(()), 0, n), 0, n, n, la);
     answers::then_matrix(first, 1, n, n, lb)
 }

@@ -47,6 +47,4 @@ pub enum Job {
     Correct,
     OneStatePredict,
     OneStateCorrect,
-    // A name that is none of these.
-    Unknown,
 }

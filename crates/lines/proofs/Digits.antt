@@ -4,14 +4,16 @@ use mathlib.Core.Path.{◌≡◌, refl, sym, ap, ◌∙◌, subst}
 use mathlib.Core.Bool.{Bool, true, false, ◌&&◌, cond}
 use mathlib.Core.List.{List}
 use Prim.Native.Nat.{ℕ, zero, suc, ◌+◌, ◌-◌, ◌*◌, ◌^◌, ◌≤◌, ◌<◌}
-use native.Mathlib.Nat.{le_trans, le_of_eq, lt_of_lt_of_le, not-suc-le-zero, mul-one, mul-pos, mul_assoc, mul-le-mul_left, mul-le-mul_right, pow-suc, pow-succ'}
+use native.Mathlib.Nat.{le_trans, le_of_eq, lt_of_lt_of_le, lt_of_not-le, not-suc-le-zero, mul-one, mul-pos, mul_assoc, mul-le-mul_left, mul-le-mul_right, pow-suc, pow-succ'}
 use native.Mathlib.Omega.{arith}
-use lib.Dec.{leb, lit<}
-use lib.Arith.{lt_of_le-ne}
-use lib.ListN.{length, get_or, get_or-eq_default}
+use lib.Dec.{leb, eqb, lit<}
+use lib.ListN.{length, get_or, drop, get_or-eq_default}
+use Rattle.std.specs.List.{slice_range}
+use Rattle.std.proofs.lemmas.List.{get_or-drop, get_or-take}
 use borrow.Author.Tests.{eq-eqb, ne_eqb, leb-true, le-leb, lt-leb}
-use Rattle.lines.specs.Hex.{digit_of, digit_at, digits_from}
-use Rattle.lines.specs.declared.Read.TheVariants.{Number, Bad}
+use Rattle.lines.specs.Hex.{digit_of, digit_at, unless, digits_from}
+use Rattle.std.specs.Prelude.{Option, None, Some}
+use Rattle.lines.specs.declared.words.Word.{Word}
 
 -- ---- a digit
 pub digit_decimal : (b : ℕ) → 48 ≤ b → b ≤ 57 → b - 48 ≡ digit_of b
@@ -48,21 +50,36 @@ small b = at (leb 48 b) (leb b 57) (leb 97 b) (leb b 102) (leb-true b 57) (leb-t
     at false q true false h k = omega arith
     at false q false s h k = omega arith
 
-digit_lt : (b : ℕ) → (digit_of b ≡ 16 → ⊥) → digit_of b < 16
-digit_lt b h = lt_of_le-ne (small b) h
-
 -- ---- the end of the digits
 -- past the end there is no digit
 pub past_end : (s : List ℕ) (p : ℕ) → length s ≤ p → digit_at s p ≡ 16
 unfolding digit_of
 past_end s p h = rw (get_or-eq_default s 0 h)
 
-pub no_digit : (k n : ℕ) (s : List ℕ) (p : ℕ) → 0 < k → digit_at s p ≡ 16 → Bad ≡ digits_from k n s p
+pub no_digit : (k n : ℕ) (s : List ℕ) (p : ℕ) → 0 < k → digit_at s p ≡ 16 → None ≡ digits_from k n s p
 unfolding digits_from
 no_digit zero n s p h e = absurd (not-suc-le-zero h)
 no_digit (suc k) n s p h e = rw (eq-eqb (digit_at s p) 16 e)
 
-pub all_read : (k n : ℕ) (s : List ℕ) (p : ℕ) → k ≤ 0 → Number n p ≡ digits_from k n s p
+-- fewer bytes are left than digits are to be read
+pub too_short : (k n : ℕ) (s : List ℕ) (p : ℕ) → 0 < k → length s < p + k → None ≡ digits_from k n s p
+unfolding digits_from
+too_short zero n s p h g = absurd (not-suc-le-zero h)
+too_short (suc k) n s p h g = go (eqb (digit_at s p) 16) refl (λ i j. too_short k (n * 16 + digit_at s p) s (p + 1) i j)
+  where
+    go : (b : Bool) → eqb (digit_at s p) 16 ≡ b → (0 < k → length s < p + 1 + k → None ≡ digits_from k (n * 16 + digit_at s p) s (p + 1)) → None ≡ unless b (digits_from k (n * 16 + digit_at s p) s (p + 1))
+    go true e rest = refl
+    go false e rest =
+        let inside : p < length s = lt_of_not-le (λ (l : length s ≤ p). let f : eqb (digit_at s p) 16 ≡ true = eq-eqb (digit_at s p) 16 (past_end s p l) in (cc)) in
+        rest (omega arith) (omega arith)
+
+-- the byte that a part of the list has at a place
+pub part_byte : (s rest digits : List ℕ) (p i : ℕ) → rest ≡ slice_range s p (length s) → digits ≡ slice_range rest 0 8 → i < 8 → p + i < length s → get_or digits i 0 ≡ get_or s (p + i) 0
+part_byte s rest digits p i a b h g =
+    let inside : i < length s - p = omega arith in
+    rw (b, get_or-take 8 (drop 0 rest) i 0 h, a, get_or-take (length s - p) (drop p s) i 0 inside, get_or-drop p s i 0)
+
+pub all_read : (k n : ℕ) (s : List ℕ) (p : ℕ) → k ≤ 0 → Some (record { bits = n; next = p }) ≡ digits_from k n s p
 unfolding digits_from
 all_read zero n s p h = refl
 all_read (suc k) n s p h = absurd (not-suc-le-zero h)
@@ -91,25 +108,34 @@ unfolding digits_from
 next zero n s p h e = absurd (not-suc-le-zero h)
 next (suc k) n s p h e = rw (ne_eqb (digit_at s p) 16 e, one_less k)
 
-module _ (s : List ℕ) (n p k d : ℕ) (more : 0 < k) (is : d ≡ digit_at s p) (some : d ≡ 16 → ⊥) where
-  found : digit_at s p ≡ 16 → ⊥
-  found e = some (is ∙ e)
+under : (x q : ℕ) → 0 < q → x < (x + 1) * q
+under x q h = lt_of_lt_of_le (lt_suc x) (le_trans (le_of_eq (sym (mul-one (x + 1)))) (mul-le-mul_left (x + 1) h))
+  where
+    lt_suc : (x : ℕ) → x < x + 1
+    lt_suc x = omega arith
 
-  below : d < 16
-  below = subst (λ (x : ℕ). x < 16) (sym is) (digit_lt (get_or s p 0) found)
+module _ (n d k : ℕ) (below : d < 16) (more : 0 < k) (r : Room n k) where
+  turn_room : Room (n * 16 + d) (k - 1)
+  turn_room = le_trans (wider n d k below more) r
 
-  -- what is still to be read stays the same
-  pub turn_same : digits_from (k - 1) (n * 16 + d) s (p + 1) ≡ digits_from k n s p
-  turn_same = ap (λ (x : ℕ). digits_from (k - 1) (n * 16 + x) s (p + 1)) is ∙ sym (next k n s p more found)
+  pub turn_fits : n * 16 + d < 4294967296
+  turn_fits = lt_of_lt_of_le (under (n * 16 + d) (16 ^ (k - 1)) (power_pos (k - 1))) turn_room
 
-  pub turn_room : Room n k → Room (n * 16 + d) (k - 1)
-  turn_room r = le_trans (wider n d k below more) r
+-- what is still to be read stays the same
+turn_same : (s : List ℕ) (n p k d : ℕ) → 0 < k → d < 16 → d ≡ digit_at s p → digits_from (k - 1) (n * 16 + d) s (p + 1) ≡ digits_from k n s p
+turn_same s n p k d more below is =
+    let found : digit_at s p ≡ 16 → ⊥ = λ e. (omega arith) in
+    ap (λ (x : ℕ). digits_from (k - 1) (n * 16 + x) s (p + 1)) is ∙ sym (next k n s p more found)
 
-  pub turn_fits : Room n k → n * 16 + d < 4294967296
-  turn_fits r = lt_of_lt_of_le (under (n * 16 + d) (16 ^ (k - 1)) (power_pos (k - 1))) (turn_room r)
-    where
-      under : (x q : ℕ) → 0 < q → x < (x + 1) * q
-      under x q h = lt_of_lt_of_le (lt_suc x) (le_trans (le_of_eq (sym (mul-one (x + 1)))) (mul-le-mul_left (x + 1) h))
-        where
-          lt_suc : (x : ℕ) → x < x + 1
-          lt_suc x = omega arith
+-- a turn of the loop over the eight bytes from a position on
+module _ (s : List ℕ) (at i n d : ℕ) (inside : i < 8) (below : d < 16) where
+  rest : 8 - i - 1 ≡ 8 - (i + 1)
+  rest = omega arith
+
+  pub read_more : (r : Option Word) → d ≡ digit_at s (at + i) → digits_from (8 - i) n s (at + i) ≡ r → digits_from (8 - (i + 1)) (n * 16 + d) s (at + (i + 1)) ≡ r
+  read_more r is e =
+      let place : at + i + 1 ≡ at + (i + 1) = omega arith in
+      subst (λ k. digits_from k (n * 16 + d) s (at + (i + 1)) ≡ r) rest (subst (λ p. digits_from (8 - i - 1) (n * 16 + d) s p ≡ r) place (turn_same s n (at + i) (8 - i) d (omega arith) below is ∙ e))
+
+  pub room_more : Room n (8 - i) → Room (n * 16 + d) (8 - (i + 1))
+  room_more r = subst (Room (n * 16 + d)) rest (turn_room n d (8 - i) below (omega arith) r)

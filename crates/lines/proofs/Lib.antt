@@ -2,6 +2,5 @@
 pub mod Digits
 pub mod Unique
 pub mod Examples
-mod Nan
 pub mod Back
 pub mod Spelling

@@ -1,29 +1,19 @@
--- The cases of `word_at`, by what the tests of `word_at` found. Assumes nothing.
+-- A space lies within the list, and behind a lost word there is no other. Assumes nothing.
 use mathlib.Core.Path.{◌≡◌, sym}
 use mathlib.Core.List.{List}
-use Prim.Native.Nat.{ℕ, ◌+◌, ◌≤◌, ◌<◌}
+use Prim.Native.Nat.{ℕ, ◌≤◌, ◌<◌}
 use native.Mathlib.Nat.{lt_of_not-le}
 use native.Mathlib.Omega.{arith}
 use lib.ListN.{length, get_or, get_or-eq_default}
-use borrow.Author.Tests.{eq-eqb, ne_eqb}
-use Rattle.lines.specs.declared.Read.TheVariants.{Number, Bad}
-use Rattle.lines.specs.Hex.{hex8_at}
+use borrow.Author.Tests.{ne_eqb}
 use Rattle.lines.specs.Word.{lost, word_at}
 
 -- a space stands within the list, since past its end `get_or` answers 0
 pub held : (s : List ℕ) (p : ℕ) → get_or s p 0 ≡ 32 → p < length s
 held s p e = lt_of_not-le (λ (h : length s ≤ p). let z = get_or-eq_default s 0 h in omega arith)
 
-module _ (s : List ℕ) (at : ℕ) where
-  pub no_space : (get_or s at 0 ≡ 32 → ⊥) → lost ≡ word_at s at
-  no_space h = rw (ne_eqb (get_or s at 0) 32 h)
-
-  module _ (space : get_or s at 0 ≡ 32) where
-    pub no_digits : hex8_at s (at + 1) ≡ Bad → lost ≡ word_at s at
-    no_digits h = rw (eq-eqb (get_or s at 0) 32 space, h)
-
-    pub digits : (n p : ℕ) → hex8_at s (at + 1) ≡ Number n p → record { bits = n; next = p } ≡ word_at s at
-    digits n p h = rw (eq-eqb (get_or s at 0) 32 space, h)
+no_space : (s : List ℕ) (at : ℕ) → (get_or s at 0 ≡ 32 → ⊥) → lost ≡ word_at s at
+no_space s at h = rw (ne_eqb (get_or s at 0) 32 h)
 
 -- Behind a word that is none there is no other, however long the list: no list of a machine reaches that position.
 pub lost_stays : (s : List ℕ) → length s ≤ lost.next → word_at s lost.next ≡ lost

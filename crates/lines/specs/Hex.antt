@@ -1,7 +1,6 @@
 -- Hexadecimal numbers in a list of bytes. Definitions only.
-use Rattle.std.specs.Prelude.{Bool, true, false, ◌&&◌, cond, List, ℕ, zero, suc, ◌+◌, ◌-◌, ◌*◌, leb, eqb, get_or}
-use Rattle.lines.specs.declared.Read.{Read}
-use Rattle.lines.specs.declared.Read.TheVariants.{Number, Bad}
+use Rattle.std.specs.Prelude.{Bool, true, false, ◌&&◌, cond, Option, None, Some, List, ℕ, zero, suc, ◌+◌, ◌-◌, ◌*◌, leb, eqb, get_or}
+use Rattle.lines.specs.declared.words.Word.{Word}
 
 -- b is one of the bytes from lo to hi
 abbrev pub within : ℕ → ℕ → ℕ → Bool
@@ -16,16 +15,16 @@ digit_of b = cond (within 48 57 b) (b - 48) (cond (within 97 102 b) (b - 97 + 10
 abbrev pub digit_at : List ℕ → ℕ → ℕ
 digit_at s at = digit_of (get_or s at 0)
 
--- Bad where bad is true, else what is read
-abbrev pub unless : Bool → Read → Read
-unless true r = Bad
+-- nothing where the test holds, else what is read
+abbrev pub unless : Bool → Option Word → Option Word
+unless true r = None
 unless false r = r
 
 -- k digits more from a position on, behind a number n that was read before it: each digit makes the number 16 times as large and is added
-unfoldable pub digits_from : ℕ → ℕ → List ℕ → ℕ → Read
-digits_from zero n s at = Number n at
+unfoldable pub digits_from : ℕ → ℕ → List ℕ → ℕ → Option Word
+digits_from zero n s at = Some (record { bits = n; next = at })
 digits_from (suc k) n s at = unless (eqb (digit_at s at) 16) (digits_from k (n * 16 + digit_at s at) s (at + 1))
 
 -- the number of eight digits that starts at a position, and the position after it
-abbrev pub hex8_at : List ℕ → ℕ → Read
+abbrev pub hex8_at : List ℕ → ℕ → Option Word
 hex8_at s at = digits_from 8 0 s at

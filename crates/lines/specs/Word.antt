@@ -1,7 +1,5 @@
 -- Words of a list. Definitions only.
-use Rattle.std.specs.Prelude.{Bool, true, false, List, ℕ, ◌+◌, eqb, get_or}
-use Rattle.lines.specs.declared.Read.{Read}
-use Rattle.lines.specs.declared.Read.TheVariants.{Number, Bad}
+use Rattle.std.specs.Prelude.{Bool, true, false, Option, None, Some, List, ℕ, ◌+◌, eqb, get_or}
 use Rattle.lines.specs.declared.words.Word.{Word}
 use Rattle.lines.specs.Hex.{hex8_at}
 
@@ -10,9 +8,9 @@ abbrev pub lost : Word
 lost = record { bits = 0; next = 0xffffffffffffffff }
 
 -- the word whose digits were read
-abbrev pub spelt : Read → Word
-spelt (Number n p) = record { bits = n; next = p }
-spelt Bad = lost
+abbrev pub spelt : Option Word → Word
+spelt (Some w) = w
+spelt None = lost
 
 -- a word where the first byte is a space
 abbrev pub behind : Bool → Word → Word

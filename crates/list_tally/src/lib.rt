@@ -11,13 +11,7 @@ pub fn letters(s: &[u8]) -> usize
     ensures within { result ≤ length s.now }
     ensures prefix { result ≡ length (take result s.now) }
 {
-    let mut i: usize = 0;
-    while i < s.len() {
-        let b = s[i];
-        if b != b'_' && (b < b'a' || b'z' < b) {
-            return i;
-        }
-        i += 1;
-    }
-    i
+    s.iter()
+        .position(|b| *b != b'_' && !b.is_ascii_lowercase())
+        .unwrap_or(s.len())
 }

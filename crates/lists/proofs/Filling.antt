@@ -2,16 +2,13 @@
 use mathlib.Core.Path.{◌≡◌, refl}
 use mathlib.Core.List.{List}
 use Prim.Native.Nat.{ℕ, ◌+◌, ◌≤◌, ◌<◌}
-use native.Mathlib.Nat.{le_antisymm}
 use native.Mathlib.Numerals.{add-one}
 use native.Mathlib.Omega.{arith}
-use lib.ListN.{length, take, set, length-set, length-take}
+use lib.ListN.{length, set, length-set}
 use lib.Ieee.{Float, binary32, of_bits}
-use borrow.Author.Tests.{lt-ltb, le-ltb}
 use Rattle.lines.specs.declared.words.Word.{Word}
-use Rattle.lines.specs.Word.{word_at, lost}
-use Rattle.lists.specs.declared.call.Lent.{Lent}
-use Rattle.lists.specs.Lent.{behind, filled, zeros, none_at, numbers_at}
+use Rattle.lines.specs.Word.{word_at}
+use Rattle.lists.specs.Lent.{behind, filled, zeros}
 
 -- of len numbers whose words begin at `at`, i are read: they stand in front, and the next word is at `next`
 pub record Read (s : List ℕ) (at len : ℕ) (cells : List Float) (next i : ℕ) : Type 0 where
@@ -36,17 +33,3 @@ module _ (s : List ℕ) (at len : ℕ) where
     front = rw (add-one i, f, e, r.front, r.place);
     place = rw (add-one i, e, r.place);
   }
-
-  pub all_read :
-      (cells : List Float) (next i : ℕ) → len ≤ 304 → len ≤ i → Read s at len cells next i →
-      record { cells = cells; len = len; next = next } ≡ numbers_at s at len
-  all_read cells next i h k r =
-      let e : i ≡ len = le_antisymm r.within k in
-      rw (r.front, r.place, e, le-ltb 304 len h)
-
-  pub too_many : (l : Lent) → 304 < len → l ≡ none_at lost.next → l ≡ numbers_at s at len
-  too_many l h e = rw (e, lt-ltb 304 len h)
-
--- both parts of what a caller asks of a length
-pub held : (len : ℕ) (cells : List Float) → len ≤ 304 → length cells ≡ 304 → (len ≤ length cells) × (len ≡ length (take len cells))
-held len cells h e = (omega arith, simp length-take (omega arith))

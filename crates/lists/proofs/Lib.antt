@@ -1,5 +1,4 @@
 -- Laws that belong to no one function.
-mod Reading
 mod Filling
 mod Comparing
 pub mod Agreed

@@ -6,7 +6,7 @@ use Rattle.lines.specs.Word.{word_at, lost}
 use Rattle.lists.specs.declared.call.Lent.{Lent}
 
 -- r is the buffer that a line has, and its length counts numbers at the start of its cells.
--- The second part follows from the first. Both are stated, since lending `&mut cells[..len]` asks for both.
+-- The second part follows from the first, and says it of the numbers that are handed out.
 abbrev pub Lends : Lent → Lent → Type 0
 Lends r has = (r.len ≤ length r.cells) × (r.len ≡ length (take r.len r.cells)) × (r ≡ has)
 

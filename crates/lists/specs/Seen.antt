@@ -1,8 +1,7 @@
 -- The comparison of what came back with the words of a line. Definitions only.
-use Rattle.std.specs.Prelude.{Bool, true, false, cond, ◌&&◌, List, ℕ, zero, suc, ◌+◌, eqb, ltb, leb, get_or, Float}
+use Rattle.std.specs.Prelude.{Bool, true, false, cond, ◌&&◌, List, [], ℕ, zero, suc, ◌+◌, eqb, ltb, leb, length, get_or, Float}
 use Rattle.std.specs.Float.{nan}
-use Rattle.answers.specs.declared.Answer.{Answer}
-use Rattle.answers.specs.Answers.{number_of, carried_by}
+use Rattle.answers.specs.Answers.{number_of, carried_by, Answer}
 use Rattle.lines.specs.Pattern.{bits_of, same_bits}
 use Rattle.lines.specs.Word.{word_at, lost}
 use Rattle.lists.specs.declared.seen.Seen.{Seen}
@@ -45,10 +44,9 @@ whole_met s o b i n =
 unfoldable pub answer_met : List ℕ → ℕ → Answer → Seen
 answer_met s at v = whole_met s (whole_met s (nothing_at at) 100 0 (number_of v)) 100 1 (get_or (carried_by v) 0 0)
 
--- the value, where one is wanted
-unfoldable pub value_met : List ℕ → Seen → Float → Bool → Seen
-value_met s o x true = float_met s o 101 0 x
-value_met s o x false = o
+-- the value
+unfoldable pub value_met : List ℕ → Seen → Float → Seen
+value_met s o x = float_met s o 101 0 x
 
 -- the first n cells, one after the other
 unfoldable pub cells_met : List ℕ → Seen → ℕ → List Float → ℕ → Seen
@@ -59,9 +57,13 @@ cells_met s o b l (suc n) = float_met s (cells_met s o b l n) b n (get_or l n na
 abbrev pub go_to : ℕ → Seen → Seen
 go_to next o = record { next = next; numbers = o.numbers; differ = o.differ; buffer = o.buffer; index = o.index; want = o.want; found = o.found }
 
--- a buffer, where one is wanted: its length and its cells; with another length, or one above 304, the line is lost
-unfoldable pub buffer_met : List ℕ → Seen → ℕ → List Float → ℕ → Bool → Seen
-buffer_met s o b l len true =
+-- a buffer: its length and its cells; with another length, or one above 304, the line is lost
+unfoldable pub buffer_met : List ℕ → Seen → ℕ → List Float → Seen
+buffer_met s o b l =
     let w = word_at s o.next in
-    cond (eqb w.bits len && leb len 304) (cells_met s (go_to w.next o) b l len) (go_to lost.next o)
-buffer_met s o b l len false = o
+    cond (eqb w.bits (length l) && leb (length l) 304) (cells_met s (go_to w.next o) b l (length l)) (go_to lost.next o)
+
+-- the first n buffers, one after the other
+unfoldable pub buffers_met : List ℕ → Seen → List (List Float) → ℕ → Seen
+buffers_met s o l zero = o
+buffers_met s o l (suc n) = buffer_met s (buffers_met s o l n) n (get_or l n [])

@@ -1,11 +1,11 @@
 // What a line says of its call: the numbers before the buffers, and the buffers.
-ghost use Rattle.std.specs.Prelude.{◌≡◌};
+ghost use Rattle.std.specs.Prelude.{◌≡◌, take};
 ghost use Rattle.lists.specs.Call.{whole_at, real_at, head_at};
 ghost use Rattle.lists.specs.Lent.{Lends, none_at, numbers_at, lent_at};
 
 // What a function takes and hands back: how many sizes, whether a row and a column, how many floats,
-// how many buffers, and whether a value comes back.
-#[derive(Clone, Copy)]
+// how many buffers, and whether a value comes back. Three facts, and no value that hangs on them.
+#[derive(Clone, Copy, Default)]
 pub struct Shape {
     pub sizes: usize,
     pub row: bool,
@@ -28,55 +28,54 @@ pub struct Head {
     pub next: usize,
 }
 
-// A whole number, and the position behind it.
+// What a line spells at a position, and the position behind it.
 #[derive(Clone, Copy)]
-pub struct Whole {
-    pub n: usize,
+pub struct Spelt<T> {
+    pub value: T,
     pub next: usize,
 }
 
-// The size, row or column at a position, where one is wanted: ffffffff stands for the largest usize.
-fn whole_at(s: &[u8], at: usize, wanted: bool) -> Whole
+// The size, row or column at a position, where one is wanted: ffffffff stands for the largest usize. What
+// is not wanted is 0, and the position stays: the caller reads on from there all the same, so that an
+// Option would be taken apart at each call.
+fn whole_at(s: &[u8], at: usize, wanted: bool) -> Spelt<usize>
     ensures { result ≡ whole_at s.now at wanted }
 {
     if !wanted {
-        return Whole { n: 0, next: at };
+        return Spelt { value: 0, next: at };
     }
     let w = lines::word_at(s, at);
     if w.bits == 0xffff_ffff {
-        return Whole {
-            n: 0xffff_ffff_ffff_ffff,
+        return Spelt {
+            value: usize::MAX,
             next: w.next,
         };
     }
-    Whole {
-        n: w.bits as usize,
+    Spelt {
+        value: w.bits as usize,
         next: w.next,
     }
 }
 
-// A float, and the position behind it.
-#[derive(Clone, Copy)]
-pub struct Real {
-    pub x: f32,
-    pub next: usize,
-}
-
 // The float at a position, where one is wanted.
-fn real_at(s: &[u8], at: usize, wanted: bool) -> Real
+fn real_at(s: &[u8], at: usize, wanted: bool) -> Spelt<f32>
     ensures { result ≡ real_at s.now at wanted }
 {
     if !wanted {
-        return Real { x: 0.0, next: at };
+        return Spelt {
+            value: 0.0,
+            next: at,
+        };
     }
     let w = lines::word_at(s, at);
-    Real {
-        x: lines::float_of(w.bits),
+    Spelt {
+        value: lines::float_of(w.bits),
         next: w.next,
     }
 }
 
 // What stands before the buffers.
+#[tactic(auto, unfolding(crate::specs::Call::head_at))]
 pub fn head_at(s: &[u8], at: usize, h: Shape) -> Head
     ensures { result ≡ head_at s.now at h }
 {
@@ -88,23 +87,37 @@ pub fn head_at(s: &[u8], at: usize, h: Shape) -> Head
     let u = real_at(s, column.next, 0 < h.floats);
     let v = real_at(s, u.next, 1 < h.floats);
     Head {
-        first: first.n,
-        second: second.n,
-        third: third.n,
-        row: row.n,
-        column: column.n,
-        u: u.x,
-        v: v.x,
+        first: first.value,
+        second: second.value,
+        third: third.value,
+        row: row.value,
+        column: column.value,
+        u: u.value,
+        v: v.value,
         next: v.next,
     }
 }
 
-// A buffer as it is lent: its length, its numbers, and the position behind them.
+// A buffer as it is lent: its numbers stand in front of its cells, and the position behind them.
 #[derive(Clone, Copy)]
 pub struct Lent {
     pub cells: [f32; 304],
     pub len: usize,
     pub next: usize,
+}
+
+impl Lent {
+    // Its numbers: as many of its cells as its length counts.
+    pub fn numbers(&self) -> &[f32]
+        ensures { result.now ≡ take self.now.len self.now.cells }
+    {
+        &self.cells[..self.len.min(304)]
+    }
+
+    // The same, to be written.
+    pub fn numbers_mut(&mut self) -> &mut [f32] {
+        &mut self.cells[..self.len.min(304)]
+    }
 }
 
 // No buffer, at a position.
@@ -128,21 +141,16 @@ fn numbers(s: &[u8], at: usize, len: usize) -> Lent
     }
     let mut cells = [0.0f32; 304];
     let mut next = at;
-    let mut i: usize = 0;
-    while i < len {
+    for i in 0..len {
         let w = lines::word_at(s, next);
         cells[i] = lines::float_of(w.bits);
         next = w.next;
-        i += 1;
     }
-    Lent {
-        cells: cells,
-        len: len,
-        next: next,
-    }
+    Lent { cells, len, next }
 }
 
 // The buffer at a position, where one is wanted: its length, and its numbers.
+#[tactic(auto, unfolding(crate::specs::Lent::lent_at))]
 pub fn lend(s: &[u8], at: usize, wanted: bool) -> Lent
     ensures { Lends result (lent_at s.now at wanted) }
 {

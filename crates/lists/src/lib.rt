@@ -5,5 +5,5 @@
 mod call;
 pub mod seen;
 
-pub use call::{Head, Lent, Shape, head_at, lend};
+pub use call::{Head, Lent, Shape, Spelt, head_at, lend};
 pub use seen::Seen;

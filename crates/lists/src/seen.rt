@@ -1,6 +1,6 @@
 // What the comparison of a line has found so far.
-ghost use Rattle.std.specs.Prelude.{◌≡◌, ◌≤◌};
-ghost use Rattle.lists.specs.Seen.{nothing_at, one_up, met_of, float_met, whole_met, low_of, answer_met, value_met, cells_met, buffer_met};
+ghost use Rattle.std.specs.Prelude.{◌≡◌, map, length};
+ghost use Rattle.lists.specs.Seen.{nothing_at, met_of, float_met, whole_met, low_of, answer_met, value_met, cells_met, buffer_met, buffers_met};
 
 use answers::Answer;
 
@@ -17,7 +17,8 @@ pub struct Seen {
     pub found: u32,
 }
 
-// The buffer's number in Seen where what differs is the answer, and where it is the value.
+// The buffer's number in Seen where what differs is the answer, and where it is the value: numbers, and no
+// enum, since a buffer goes by its number on the line and the programs print it.
 pub const ANSWER: usize = 100;
 
 pub const VALUE: usize = 101;
@@ -37,13 +38,6 @@ pub fn nothing(at: usize) -> Seen
     }
 }
 
-// One more, up to the largest number.
-pub fn one_more(n: u64) -> u64
-    ensures { result ≡ one_up n }
-{
-    if n < 0xffff_ffff_ffff_ffff { n + 1 } else { n }
-}
-
 // One number more: the list has `want`, `found` was found, and they are the same or not.
 pub fn met(
     o: Seen,
@@ -56,23 +50,32 @@ pub fn met(
 ) -> Seen
     ensures { result ≡ met_of same o next buffer index want found }
 {
-    let mut more = o;
-    more.next = next;
-    more.numbers = one_more(o.numbers);
+    let numbers = o.numbers.saturating_add(1);
     if same {
-        return more;
+        return Seen { next, numbers, ..o };
     }
-    more.differ = one_more(o.differ);
-    if o.differ == 0 {
-        more.buffer = buffer;
-        more.index = index;
-        more.want = want;
-        more.found = found;
+    let differ = o.differ.saturating_add(1);
+    if o.differ != 0 {
+        return Seen {
+            next,
+            numbers,
+            differ,
+            ..o
+        };
     }
-    more
+    Seen {
+        next,
+        numbers,
+        differ,
+        buffer,
+        index,
+        want,
+        found,
+    }
 }
 
 // The float x against the next word: any NaN is the same as any other.
+#[tactic(auto, unfolding(crate::specs::Seen::float_met))]
 pub fn float_met(s: &[u8], o: Seen, buffer: usize, index: usize, x: f32) -> Seen
     ensures { result ≡ float_met s.now o buffer index x }
 {
@@ -90,6 +93,7 @@ pub fn float_met(s: &[u8], o: Seen, buffer: usize, index: usize, x: f32) -> Seen
 }
 
 // The number n, at most 32 bits, against the next word.
+#[tactic(auto, unfolding(crate::specs::Seen::whole_met))]
 pub fn whole_met(s: &[u8], o: Seen, buffer: usize, index: usize, n: usize) -> Seen
     ensures { result ≡ whole_met s.now o buffer index n }
 {
@@ -110,14 +114,11 @@ pub fn whole_met(s: &[u8], o: Seen, buffer: usize, index: usize, n: usize) -> Se
 pub fn low(n: usize) -> u32
     ensures { result ≡ low_of n }
 {
-    if n < 0x1_0000_0000 {
-        n as u32
-    } else {
-        0xffff_ffff
-    }
+    u32::try_from(n).unwrap_or(u32::MAX)
 }
 
 // The answer against the next two words: its number, and what it carries.
+#[tactic(auto, unfolding(crate::specs::Seen::answer_met))]
 pub fn answer_met(s: &[u8], at: usize, v: Answer) -> Seen
     ensures { result ≡ answer_met s.now at v }
 {
@@ -125,51 +126,48 @@ pub fn answer_met(s: &[u8], at: usize, v: Answer) -> Seen
     whole_met(s, o, ANSWER, 1, answers::carried_by(v))
 }
 
-// The value that came back against the next word, where one is wanted.
-pub fn value_met(s: &[u8], o: Seen, x: f32, wanted: bool) -> Seen
-    ensures { result ≡ value_met s.now o x wanted }
+// The value that came back against the next word.
+#[tactic(auto, unfolding(crate::specs::Seen::value_met))]
+pub fn value_met(s: &[u8], o: Seen, x: f32) -> Seen
+    ensures { result ≡ value_met s.now o x }
 {
-    if !wanted {
-        return o;
-    }
     float_met(s, o, VALUE, 0, x)
 }
 
-// The first len cells of a buffer against the next words, of which the first is the length, where
-// one is wanted. With another length, or one above 304, the line is lost.
-pub fn buffer_met(
-    s: &[u8],
-    o: Seen,
-    buffer: usize,
-    cells: &[f32; 304],
-    len: usize,
-    wanted: bool,
-) -> Seen
-    ensures { result ≡ buffer_met s.now o buffer cells.now len wanted }
+// A buffer's cells against the next words, of which the first is how many they are. With another
+// length, or one above 304, the line is lost.
+#[tactic(auto, unfolding(crate::specs::Seen::buffer_met))]
+pub fn buffer_met(s: &[u8], o: Seen, buffer: usize, cells: &[f32]) -> Seen
+    ensures { result ≡ buffer_met s.now o buffer cells.now }
 {
-    if !wanted {
-        return o;
-    }
     let w = lines::word_at(s, o.next);
-    let mut more = o;
-    more.next = w.next;
-    if w.bits as usize != len || 304 < len {
-        more.next = lines::LOST;
-        return more;
+    if w.bits as usize != cells.len() || 304 < cells.len() {
+        return Seen {
+            next: lines::LOST,
+            ..o
+        };
     }
-    cells_met(s, more, buffer, cells, len)
+    cells_met(s, Seen { next: w.next, ..o }, buffer, cells)
 }
 
-// The first len cells against the next words, at most 304.
-fn cells_met(s: &[u8], o: Seen, buffer: usize, cells: &[f32; 304], len: usize) -> Seen
-    requires { len ≤ 304 }
-    ensures { result ≡ cells_met s.now o buffer cells.now len }
+// Buffers against the next words, one after the other, numbered from 0.
+pub fn buffers_met(s: &[u8], o: Seen, buffers: &[&[f32]]) -> Seen
+    ensures { result ≡ buffers_met s.now o (map (λ b. b.now) buffers.now) (length buffers.now) }
 {
     let mut more = o;
-    let mut i: usize = 0;
-    while i < len {
-        more = float_met(s, more, buffer, i, cells[i]);
-        i += 1;
+    for (i, cells) in buffers.iter().enumerate() {
+        more = buffer_met(s, more, i, *cells);
+    }
+    more
+}
+
+// The cells against the next words, one after the other.
+fn cells_met(s: &[u8], o: Seen, buffer: usize, cells: &[f32]) -> Seen
+    ensures { result ≡ cells_met s.now o buffer cells.now (length cells.now) }
+{
+    let mut more = o;
+    for (i, x) in cells.iter().enumerate() {
+        more = float_met(s, more, buffer, i, *x);
     }
     more
 }

@@ -4,6 +4,7 @@ use mathlib.Core.Logic.{⊎_elim}
 use mathlib.Core.Bool.{Bool, true, false, ◌&&◌, true≢false}
 use Prim.Native.Nat.{ℕ, zero, suc, ◌+◌, ◌*◌, ◌<◌}
 use native.Mathlib.Nat.{not-suc-le-zero, le_of_suc-le-suc, eq-or-lt_of_le, zero-mul, suc-mul, add-zero, add-suc}
+use native.Mathlib.Numerals.{add-one}
 use native.Mathlib.Omega.{arith}
 use Rattle.numbers.specs.Finite.{every}
 
@@ -26,6 +27,15 @@ and_assoc true b c = refl
 and_assoc false b c = refl
 
 -- ---- every index below n
+
+-- no index, and one more
+pub every_none : (p : ℕ → Bool) → every 0 p ≡ true
+unfolding every
+every_none p = refl
+
+pub every_more : (n : ℕ) (p : ℕ → Bool) → every (n + 1) p ≡ every n p && p n
+unfolding every
+every_more n p = rw add-one
 
 -- where the test holds for every index it holds for each ..
 pub holds_at : (n : ℕ) (p : ℕ → Bool) → every n p ≡ true → (i : ℕ) → i < n → p i ≡ true

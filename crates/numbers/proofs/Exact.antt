@@ -1,6 +1,6 @@
 -- Sums and products of whole numbers are exact while they stay within 2 ^ prec, and so is a sum_from sum of them while the sum of their abs_sum does. Assumes nothing.
 use mathlib.Core.Path.{◌≡◌, refl, sym, ap, ap₂, ◌∙◌, subst}
-use mathlib.Core.Logic.{◌⊎◌, ⊎_elim}
+use mathlib.Core.Logic.{⊎_elim}
 use Prim.Native.Nat.{ℕ, zero, suc, ◌+◌, ◌-◌, ◌*◌, ◌^◌, ◌≤◌, ◌<◌, suc-le-suc}
 use native.Mathlib.Nat.{le_step, le_of_suc-le-suc, not-suc-le-zero, eq-or-lt_of_le, le-add_left, le-add_right, add_comm, le_trans, le_of_eq, le_of_lt, le_refl, sub-add_cancel, le_of_mul-le-mul_right, zero-lt-suc, mul-one, mul-pos, mul-mul-mul_comm, mul_assoc, mul_comm, mul-sub, add-mul, zero-mul, mul-zero}
 use native.Mathlib.Omega.{arith}

@@ -1,4 +1,4 @@
--- What a loop that adds up needs: a turn from a given start, a turn from the first term, and terms that are equal one by one. Assumes nothing.
+-- What a loop that adds up needs: no term, a turn from a given start, a turn from the first term, and terms that are equal one by one. Assumes nothing.
 use mathlib.Core.Path.{◌≡◌, refl, ap₂}
 use Prim.Native.Nat.{ℕ, zero, suc, ◌+◌, ◌<◌}
 use native.Mathlib.Nat.{le_step, le_refl, not-suc-le-zero}
@@ -6,9 +6,17 @@ use native.Mathlib.Numerals.{add-one}
 use lib.Ieee.{Float, Format, add}
 use Rattle.numbers.specs.Sums.{sum_from, sum_of_first}
 
+pub sum_none : (f : Format) (start : Float) (t : ℕ → Float) → sum_from f start t 0 ≡ start
+unfolding sum_from
+sum_none f start t = refl
+
 pub sum_next : (f : Format) (start : Float) (t : ℕ → Float) (n : ℕ) → sum_from f start t (n + 1) ≡ add f (sum_from f start t n) (t n)
 unfolding sum_from
 sum_next f start t n = rw add-one
+
+pub first_only : (f : Format) (t : ℕ → Float) → sum_of_first f t 1 ≡ t 0
+unfolding sum_from
+first_only f t = refl
 
 pub first_next : (f : Format) (t : ℕ → Float) (n : ℕ) → 0 < n → sum_of_first f t (n + 1) ≡ add f (sum_of_first f t n) (t n)
 unfolding sum_from

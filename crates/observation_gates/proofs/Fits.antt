@@ -5,9 +5,8 @@ use mathlib.Core.List.{List, [], ◌∷◌, ◌++◌}
 use Prim.Native.Nat.{ℕ, ◌≤◌}
 use borrow.Author.Tests.{eqb-true, leb-true, le-ltb}
 use lib.Dec.{eqb, leb}
-use Rattle.answers.specs.declared.Answer.{Answer}
-use Rattle.answers.specs.declared.Answer.TheVariants.{Done}
-use Rattle.answers.specs.Answers.{is_done, first_of}
+use Rattle.std.proofs.Common.{Ok}
+use Rattle.answers.specs.Answers.{is_done, first_of, Answer}
 use Rattle.answers.specs.Tests.{Lent, lent, call_answer}
 use Rattle.answers.specs.Exactly.{All, holds}
 use Rattle.answers.proofs.Fit.{fit}
@@ -45,7 +44,7 @@ too w e n = n ∙ ap (λ (b : Bool). b && w) e
 pub rest_passes :
     (n m lx lp lh lz : ℕ) (rest : List Lent) (h : Answer) (w : Bool) → h ≡ call_answer (n ∷ m ∷ []) (front n m lx lp lh) []
     → w ≡ (leb 2 m && (is_done h && all_fit true (lent m lz ∷ rest))) → w ≡ true
-    → Done ≡ call_answer (n ∷ m ∷ []) (front n m lx lp lh ++ lent m lz ∷ rest) []
+    → Ok tt ≡ call_answer (n ∷ m ∷ []) (front n m lx lp lh ++ lent m lz ∷ rest) []
 rest_passes n m lx lp lh lz rest h w q e t =
     let p = both (is_done h) (all_fit true (lent m lz ∷ rest)) (both (leb 2 m) _ (sym e ∙ t)).1 in
     let f = passed (n ∷ m ∷ []) (front n m lx lp lh) [] (ap is_done (sym q) ∙ p.0) in

@@ -16,7 +16,7 @@ use answers::Answer;
 pub fn innovation(n: usize, m: usize, lx: usize, lh: usize, lz: usize, ly: usize) -> Answer
     ensures { result ≡ innovation_answer n m lx lh lz ly }
 {
-    let states = answers::then_size(Answer::Done, 0, n);
+    let states = answers::then_size(Ok(()), 0, n);
     let sizes = answers::then_size(states, 1, m);
     let x = answers::then_buffer(sizes, 0, n, lx);
     let h = answers::then_matrix(x, 1, m, n, lh);
@@ -28,7 +28,7 @@ pub fn innovation(n: usize, m: usize, lx: usize, lh: usize, lz: usize, ly: usize
 fn front_of(n: usize, m: usize, lx: usize, lp: usize, lh: usize) -> Answer
     ensures { result ≡ call_answer (n ∷ m ∷ []) (front n m lx lp lh) [] }
 {
-    let states = answers::then_size(Answer::Done, 0, n);
+    let states = answers::then_size(Ok(()), 0, n);
     let sizes = answers::then_size(states, 1, m);
     let x = answers::then_buffer(sizes, 0, n, lx);
     let p = answers::then_matrix(x, 1, n, n, lp);
@@ -250,7 +250,7 @@ pub fn correction(
 {
     let h = front_of(n, m, lx, lp, lh);
     if all_fit(h, n, m, lz, lr, ly, ls, lk, li, lhp, lpht, lkhp) {
-        return Answer::Done;
+        return Ok(());
     }
     rest_of(h, n, m, lz, lr, ly, ls, lk, li, lhp, lpht, lkhp)
 }

@@ -6,7 +6,8 @@ use Prim.Native.Nat.{ℕ, ◌≤◌}
 use lib.ListN.{length, set}
 use lib.Ieee.{Float, binary32, add, sub, mul}
 use lib.Ieee.Scale.{finite}
-use Rattle.answers.specs.declared.Answer.TheVariants.{Done, Pivot, NotFinite}
+use Rattle.std.proofs.Common.{Ok, Err}
+use Rattle.answers.specs.declared.Refusal.TheVariants.{Pivot, NotFinite}
 use Rattle.numbers.specs.Reciprocal.{recip_of}
 use Rattle.numbers.specs.Root.{sqrt_of}
 use Rattle.numbers.specs.Sums.{plus0, sum_from}
@@ -36,7 +37,7 @@ module _ (b : Buffers) (z : List Float) {s : Float} (told : s ≡ residual_of bi
       → e.HP ≡ set b.HP 0 (hp_of binary32 1 H P 0 0)
       → e.S ≡ set b.S 0 (mul binary32 s plus0)
       → e.s_inv ≡ b.s_inv → e.PHt ≡ b.PHt → e.K ≡ b.K → e.x ≡ b.x → e.KHP ≡ b.KHP → e.P ≡ b.P
-      → Renewed binary32 1 1 Done (Pivot 0) b e
+      → Renewed binary32 1 1 (Ok tt) (Err (Pivot 0)) b e
   unfolding run grid
   refused e t vg vs vi vt vk vx vh vp =
       refused_by_one binary32 1 b e (ap pivot_taken (sym told) ∙ t) vg (vs ∙ ap (λ (a : Float). set b.S 0 (mul binary32 a plus0)) told) vi vt vk vx vh vp
@@ -80,15 +81,15 @@ module _ (b : Buffers) (z : List Float) {s : Float} (told : s ≡ residual_of bi
         fine = says ∙ ap₂ (λ (i j : Float). finite i && finite j) w_is n_is
 
         -- the last test is passed, and x and P are stored
-        pub passed : q ≡ true → e.x ≡ set b.x 0 w → e.P ≡ set b.P 0 n → Renewed binary32 1 1 Done Done b e
+        pub passed : q ≡ true → e.x ≡ set b.x 0 w → e.P ≡ set b.P 0 n → Renewed binary32 1 1 (Ok tt) (Ok tt) b e
         unfolding run grid
         passed u vx vp =
-            renewed_by_one binary32 1 b e z d Done l y holds stored (ap pivot_taken (sym told) ∙ taken) (root ∙ ap (sqrt_of binary32) told) recip (one_passed X N q fine u)
+            renewed_by_one binary32 1 b e z d (Ok tt) l y holds stored (ap pivot_taken (sym told) ∙ taken) (root ∙ ap (sqrt_of binary32) told) recip (one_passed X N q fine u)
             vg vs vi vt (vk ∙ ap (set b.K 0) gain) (vh ∙ ap (set b.KHP 0) spread) (vx ∙ ap (set b.x 0) w_is) (vp ∙ ap (set b.P 0) n_is)
 
         -- it is not, and they stay
-        pub failed : q ≡ false → e.x ≡ b.x → e.P ≡ b.P → Renewed binary32 1 1 Done NotFinite b e
+        pub failed : q ≡ false → e.x ≡ b.x → e.P ≡ b.P → Renewed binary32 1 1 (Ok tt) (Err NotFinite) b e
         unfolding run grid
         failed u vx vp =
-            renewed_by_one binary32 1 b e z d NotFinite l y holds stored (ap pivot_taken (sym told) ∙ taken) (root ∙ ap (sqrt_of binary32) told) recip (one_failed X N q fine u)
+            renewed_by_one binary32 1 b e z d (Err NotFinite) l y holds stored (ap pivot_taken (sym told) ∙ taken) (root ∙ ap (sqrt_of binary32) told) recip (one_failed X N q fine u)
             vg vs vi vt (vk ∙ ap (set b.K 0) gain) (vh ∙ ap (set b.KHP 0) spread) vx vp

@@ -6,14 +6,13 @@
 
 ghost use Rattle.std.specs.Prelude.{◌≡◌, [], ◌≤◌, length};
 ghost use Rattle.std.specs.Float.{binary32};
-ghost use Rattle.answers.specs.declared.Answer.TheVariants.{Done};
 ghost use Rattle.grids.specs.Grid.{cell, run};
 ghost use Rattle.entries.specs.Entries.{numbers};
 ghost use Rattle.filters.specs.Correction.{innovation_of};
 ghost use Rattle.filters.specs.Lent.{buffers, Held};
 ghost use Rattle.filters.specs.Corrected.{Renewed};
 
-use answers::Answer;
+use answers::{Answer, Refusal};
 
 // One state, one observation: done, the pivot is refused, or 9 where the new x or P is not finite.
 pub fn correct_one(
@@ -32,7 +31,7 @@ pub fn correct_one(
 ) -> Answer
     requires { Held 1 1 (buffers x.old p.old h.now [] r.now y.old s.old k.old temp_s_inv.old temp_hp.old temp_pht.old temp_khp.old) × (1 ≤ length z.now) }
     ensures y { y.new ≡ run 0 1 (innovation_of binary32 1 (cell 1 h.now) (numbers x.old) (numbers z.now)) y.old }
-    ensures renewed { Renewed binary32 1 1 Done result
+    ensures renewed { Renewed binary32 1 1 (Ok tt) result
         (buffers x.old p.old h.now [] r.now y.new s.old k.old temp_s_inv.old temp_hp.old temp_pht.old temp_khp.old)
         (buffers x.new p.new h.now [] r.now y.new s.new k.new temp_s_inv.new temp_hp.new temp_pht.new temp_khp.new) }
 {
@@ -48,7 +47,7 @@ pub fn correct_one(
     temp_hp[0] = 0.0 + u00;
     if !pivots::taken(s00) {
         s[0] = s00 * 0.0;
-        return Answer::Pivot(0);
+        return Err(Refusal::Pivot(0));
     }
     let l00 = data_type::square_root(s00);
     let d0 = data_type::recip(l00);
@@ -65,7 +64,7 @@ pub fn correct_one(
     if finite::two(w0, n00) {
         x[0] = w0;
         p[0] = n00;
-        return Answer::Done;
+        return Ok(());
     }
-    Answer::NotFinite
+    Err(Refusal::NotFinite)
 }

@@ -8,9 +8,9 @@ use lib.Ieee.Scale.{finite}
 use Rattle.numbers.specs.Reciprocal.{one, recip_of}
 use Rattle.numbers.specs.Root.{sqrt_of}
 use Rattle.numbers.proofs.NotFinite.{plus_not_finite}
-use Rattle.answers.specs.declared.Answer.{Answer}
-use Rattle.answers.specs.declared.Answer.TheVariants.{Pivot, NotFinite}
-use Rattle.answers.specs.Answers.{is_done}
+use Rattle.std.proofs.Common.{Err}
+use Rattle.answers.specs.declared.Refusal.TheVariants.{Pivot, NotFinite}
+use Rattle.answers.specs.Answers.{is_done, Answer}
 use Rattle.pivots.specs.declared.Pivot.TheVariants as pivot
 use Rattle.factors.specs.Pivots.{pivot_taken}
 use Rattle.factors.proofs.Taken.{not_finite_refused}
@@ -46,17 +46,17 @@ module _ (s : OneState) (z : Float) where
   accepted e q = rw (e, q)
 
   -- where S is taken and they are not it is blinded
-  pub not_finite : pivot_taken (spread binary32 s.h s.p s.r) ≡ true → finite_xp (renewed s z) ≡ false → corrected s z ≡ Refused (blinded s) NotFinite
+  pub not_finite : pivot_taken (spread binary32 s.h s.p s.r) ≡ true → finite_xp (renewed s z) ≡ false → corrected s z ≡ Refused (blinded s) (Err NotFinite)
   unfolding corrected
   not_finite e q = rw (e, q)
 
   -- where S is not taken it is blinded too
-  pub refused : pivot_taken (spread binary32 s.h s.p s.r) ≡ false → corrected s z ≡ Refused (blinded s) (Pivot 0)
+  pub refused : pivot_taken (spread binary32 s.h s.p s.r) ≡ false → corrected s z ≡ Refused (blinded s) (Err (Pivot 0))
   unfolding corrected
   refused e = rw e
 
   -- An r that is NaN or infinite is refused.
-  pub not_finite_r : finite s.r ≡ false → corrected s z ≡ Refused (blinded s) (Pivot 0)
+  pub not_finite_r : finite s.r ≡ false → corrected s z ≡ Refused (blinded s) (Err (Pivot 0))
   not_finite_r e = refused (not_finite_refused _ (plus_not_finite binary32 _ s.r e))
 
   -- what comes back refused is the record blinded, with a refusal
@@ -64,10 +64,10 @@ module _ (s : OneState) (z : Float) where
   unfolding corrected
   comes_back t v e = go (pivot_taken (spread binary32 s.h s.p s.r)) (finite_xp (renewed s z)) e
     where
-      go : (a b : Bool) → cond a (cond b (Accepted (renewed s z)) (Refused (blinded s) NotFinite)) (Refused (blinded s) (Pivot 0)) ≡ Refused t v → (t ≡ blinded s) × (is_done v ≡ false)
+      go : (a b : Bool) → cond a (cond b (Accepted (renewed s z)) (Refused (blinded s) (Err NotFinite))) (Refused (blinded s) (Err (Pivot 0))) ≡ Refused t v → (t ≡ blinded s) × (is_done v ≡ false)
       go true true q = let n : ◌≡◌ {A = ℕ} 0 1 = cc in absurd (omega arith)
-      go true false q = let w : v ≡ NotFinite = cc in (cc, ap is_done w)
-      go false b q = let w : v ≡ Pivot 0 = cc in (cc, ap is_done w)
+      go true false q = let w : v ≡ Err NotFinite = cc in (cc, ap is_done w)
+      go false b q = let w : v ≡ Err (Pivot 0) = cc in (cc, ap is_done w)
 
   -- What is handed back, by the answer: the record renewed, or blinded ..
   pub handed_back_lem : handed_back (corrected s z) ≡ cond (is_done (answer_of (corrected s z))) (renewed s z) (blinded s)
@@ -75,7 +75,7 @@ module _ (s : OneState) (z : Float) where
   handed_back_lem = go (pivot_taken (spread binary32 s.h s.p s.r)) (finite_xp (renewed s z))
     where
       go : (a b : Bool)
-          → let c = cond a (cond b (Accepted (renewed s z)) (Refused (blinded s) NotFinite)) (Refused (blinded s) (Pivot 0)) in
+          → let c = cond a (cond b (Accepted (renewed s z)) (Refused (blinded s) (Err NotFinite))) (Refused (blinded s) (Err (Pivot 0))) in
           handed_back c ≡ cond (is_done (answer_of c)) (renewed s z) (blinded s)
       go true true = refl
       go true false = refl
@@ -112,9 +112,9 @@ module _ (s : OneState) (z : Float) where
     goes_through a b ea eb ta tb =
         ap Accepted same ∙ sym (accepted (accepts binary32 _ l d step).0 (ap finite_xp (sym same) ∙ rw (sym ea ∙ ta, sym eb ∙ tb) refl))
 
-    pub comes_back_x : (a : Bool) → a ≡ finite (by d).x → a ≡ false → Refused (blinded s) NotFinite ≡ corrected s z
+    pub comes_back_x : (a : Bool) → a ≡ finite (by d).x → a ≡ false → Refused (blinded s) (Err NotFinite) ≡ corrected s z
     comes_back_x a ea ta = sym (not_finite (accepts binary32 _ l d step).0 (ap finite_xp (sym same) ∙ rw (sym ea ∙ ta) refl))
 
-    pub comes_back_p : (a b : Bool) → a ≡ finite (by d).x → b ≡ finite (by d).p → a ≡ true → b ≡ false → Refused (blinded s) NotFinite ≡ corrected s z
+    pub comes_back_p : (a b : Bool) → a ≡ finite (by d).x → b ≡ finite (by d).p → a ≡ true → b ≡ false → Refused (blinded s) (Err NotFinite) ≡ corrected s z
     comes_back_p a b ea eb ta tb =
         sym (not_finite (accepts binary32 _ l d step).0 (ap finite_xp (sym same) ∙ rw (sym ea ∙ ta, sym eb ∙ tb) refl))

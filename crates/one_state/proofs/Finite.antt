@@ -6,8 +6,9 @@ use Prim.Native.Nat.{ℕ}
 use native.Mathlib.Omega.{arith}
 use lib.Ieee.{Float, binary32}
 use lib.Ieee.Scale.{finite}
-use Rattle.answers.specs.declared.Answer.{Answer}
-use Rattle.answers.specs.declared.Answer.TheVariants.{Pivot, NotFinite}
+use Rattle.std.proofs.Common.{Err}
+use Rattle.answers.specs.declared.Refusal.TheVariants.{Pivot, NotFinite}
+use Rattle.answers.specs.Answers.{Answer}
 use Rattle.numbers.proofs.Every.{then_fails}
 use Rattle.numbers.proofs.NotFinite.{not_finite_plus, plus_not_finite, not_finite_less, not_finite_times, times_not_finite}
 use Rattle.numbers.specs.Sums.{plus0}
@@ -43,8 +44,8 @@ module _ (s : OneState) (z : Float) where
   comes_back_refused bad = go (pivot_taken (spread binary32 s.h s.p s.r)) refl
     where
       go : (t : Bool) → pivot_taken (spread binary32 s.h s.p s.r) ≡ t → (v : Answer) × (corrected s z ≡ Refused (blinded s) v)
-      go true k = (NotFinite, not_finite s z k bad)
-      go false k = (Pivot 0, refused s z k)
+      go true k = ((Err NotFinite), not_finite s z k bad)
+      go false k = (Err (Pivot 0), refused s z k)
 
   -- A record whose x or p is not finite is refused ..
   pub spoilt : finite_xp s ≡ false → (v : Answer) × (corrected s z ≡ Refused (blinded s) v)
@@ -64,8 +65,8 @@ module _ (s : OneState) (z : Float) where
     where
       go : (a b : Bool) → pivot_taken (spread binary32 s.h s.p s.r) ≡ a → finite_xp (renewed s z) ≡ b → finite_xp t ≡ true
       go true true k q = let w : Accepted (renewed s z) ≡ Accepted t = sym (accepted s z k q) ∙ e in let same : renewed s z ≡ t = cc in ap finite_xp (sym same) ∙ q
-      go true false k q = no_accepted t (blinded s) NotFinite (sym (not_finite s z k q) ∙ e)
-      go false b k q = no_accepted t (blinded s) (Pivot 0) (sym (refused s z k) ∙ e)
+      go true false k q = no_accepted t (blinded s) (Err NotFinite) (sym (not_finite s z k q) ∙ e)
+      go false b k q = no_accepted t (blinded s) (Err (Pivot 0)) (sym (refused s z k) ∙ e)
 
   -- .. and so were those before.
   pub found_finite : (t : OneState) → corrected s z ≡ Accepted t → finite_xp s ≡ true

@@ -9,9 +9,9 @@ use native.Mathlib.Omega.{arith}
 use lib.ListN.{length}
 use lib.Ieee.{Float, Format, binary32}
 use lib.Ieee.Scale.{finite}
-use Rattle.answers.specs.declared.Answer.{Answer}
-use Rattle.answers.specs.declared.Answer.TheVariants.{Done, Pivot, NotFinite}
-use Rattle.answers.specs.Answers.{is_done, first_of, settled}
+use Rattle.std.proofs.Common.{Ok, Err}
+use Rattle.answers.specs.declared.Refusal.TheVariants.{Pivot, NotFinite}
+use Rattle.answers.specs.Answers.{is_done, first_of, settled, Answer}
 use Rattle.answers.specs.Tests.{lent}
 use Rattle.answers.proofs.Fit.{fit}
 use Rattle.numbers.specs.Root.{sqrt_of}
@@ -92,7 +92,7 @@ unfolding sum_from plus_sum solved back
 gain_1 f H P R i t = ap (λ (l : Float). timed f (timed f (P 0 0) (H 0 0)) (inverted f l)) (root_1 f (residual_of f 1 H P R) t)
 
 -- the answer of the one pivot
-answer_1 : (t : Bool) → pivot_answer (cond t 1 0) 1 ≡ cond t Done (Pivot 0)
+answer_1 : (t : Bool) → pivot_answer (cond t 1 0) 1 ≡ cond t (Ok tt) (Err (Pivot 0))
 answer_1 true = refl
 answer_1 false = refl
 
@@ -122,12 +122,12 @@ module _ (f : Format) (b : Buffers) (v : Answer) (e : Buffers) (call : observati
   p' = corrected_p f (front b.P) (front b.H) (front b.R)
 
   -- the pivot's answer goes by the test on S
-  pivot_answered : observations.pivots_answer f 1 1 given ≡ cond (pivot_taken S) Done (Pivot 0)
+  pivot_answered : observations.pivots_answer f 1 1 given ≡ cond (pivot_taken S) (Ok tt) (Err (Pivot 0))
   unfolding first_not factor less_dot sum_from
   pivot_answered = answer_1 (pivot_taken S)
 
   -- and the call's by that, and then by the last test
-  answered : v ≡ first_of (cond (pivot_taken S) Done (Pivot 0)) (observations.finite_answer 1 (observations.next_x f 1 1 given) (observations.next_p f 1 1 given))
+  answered : v ≡ first_of (cond (pivot_taken S) (Ok tt) (Err (Pivot 0))) (observations.finite_answer 1 (observations.next_x f 1 1 given) (observations.next_p f 1 1 given))
   answered =
       past call.renewed gate
       ∙ ap (λ (u : Answer). first_of u (observations.finite_answer 1 (observations.next_x f 1 1 given) (observations.next_p f 1 1 given))) pivot_answered
@@ -151,12 +151,12 @@ module _ (f : Format) (b : Buffers) (v : Answer) (e : Buffers) (call : observati
     next_p_lem = rw gain-first
 
     -- the answer goes by the test on these
-    tested : v ≡ cond (finite x' && finite p') Done NotFinite
+    tested : v ≡ cond (finite x' && finite p') (Ok tt) (Err NotFinite)
     unfolding every
     tested = answered ∙ rw (taken, next_x_lem, next_p_lem) refl
 
     -- done: x and P afterwards
-    module _ (done : v ≡ Done) where
+    module _ (done : v ≡ Ok tt) where
       pub correct_x_first : front e.x ≡ x'
       correct_x_first = run-first v (observations.next_x f 1 1 given) b.x e.x (ap is_done done) correct_fits.0 call.renewed.x_after ∙ next_x_lem
 
@@ -185,20 +185,20 @@ correct_agrees s z b v e hx hp hh hr hz call gate = go (pivot_taken (spread bina
     there_too t k = rw (hx, hh, hp, hr, hz) k
 
     -- refused on both sides, with one answer
-    both_refused : (w : Answer) → v ≡ w → is_done w ≡ false → corrected s z ≡ Refused (blinded s) w → (v ≡ Done) ⊎ ((v ≡ Pivot 0) ⊎ (v ≡ NotFinite)) → Agrees s z b v e
+    both_refused : (w : Answer) → v ≡ w → is_done w ≡ false → corrected s z ≡ Refused (blinded s) w → (v ≡ Ok tt) ⊎ ((v ≡ Err (Pivot 0)) ⊎ (v ≡ Err NotFinite)) → Agrees s z b v e
     both_refused w q d k o =
         let no-done : is_done v ≡ false = ap is_done q ∙ d in
         let kept = stay binary32 b v e call gate no-done in
         record { done = λ t. absurd (true≢false (sym t ∙ no-done)); refused = λ _. (k ∙ ap (Refused (blinded s)) (sym q), kept.0, kept.1); only = o }
 
     go : (t u : Bool) → pivot_taken (spread binary32 s.h s.p s.r) ≡ t → finite_xp (renewed s z) ≡ u → Agrees s z b v e
-    go false u k j = let q : v ≡ Pivot 0 = answered binary32 b v e call gate ∙ rw (there false k) refl in both_refused (Pivot 0) q refl (refused s z k) (inr (inl q))
+    go false u k j = let q : v ≡ Err (Pivot 0) = answered binary32 b v e call gate ∙ rw (there false k) refl in both_refused (Err (Pivot 0)) q refl (refused s z k) (inr (inl q))
     go true false k j =
-        let q : v ≡ NotFinite = tested binary32 b v e call gate (there true k) ∙ rw (there_too false j) refl in
-        both_refused NotFinite q refl (not_finite s z k j) (inr (inr q))
+        let q : v ≡ Err NotFinite = tested binary32 b v e call gate (there true k) ∙ rw (there_too false j) refl in
+        both_refused (Err NotFinite) q refl (not_finite s z k j) (inr (inr q))
     go true true k j =
         let t = there true k in
-        let d : v ≡ Done = tested binary32 b v e call gate t ∙ rw (there_too true j) refl in
+        let d : v ≡ Ok tt = tested binary32 b v e call gate t ∙ rw (there_too true j) refl in
         record {
           done = λ _. accepted s z k j ∙ rw (correct_x_first binary32 b v e call gate t d, correct_p_first binary32 b v e call gate t d, hx, hp, hh, hr, hz);
           refused = λ q. absurd (true≢false (sym (ap is_done d) ∙ q));

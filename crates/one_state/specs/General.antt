@@ -1,9 +1,8 @@
 -- When a general correction at n = m = 1 and the correction of a record agree. Definitions only.
-use Rattle.std.specs.Prelude.{◌≡◌, true, false, ◌⊎◌, List, get_or, Float}
+use Rattle.std.specs.Prelude.{◌≡◌, true, false, ◌⊎◌, List, get_or, Float, Ok, Err}
 use Rattle.std.specs.Float.{nan}
-use Rattle.answers.specs.declared.Answer.{Answer}
-use Rattle.answers.specs.declared.Answer.TheVariants.{Done, Pivot, NotFinite}
-use Rattle.answers.specs.Answers.{is_done}
+use Rattle.answers.specs.declared.Refusal.TheVariants.{Pivot, NotFinite}
+use Rattle.answers.specs.Answers.{is_done, Answer}
 use Rattle.filters.specs.Lent.{Buffers}
 use Rattle.one_state.specs.declared.OneState.{OneState}
 use Rattle.one_state.specs.declared.Corrected.TheVariants.{Accepted, Refused}
@@ -20,4 +19,4 @@ pub record Agrees (s : OneState) (z : Float) (b : Buffers) (v : Answer) (e : Buf
   -- where it is refused the record comes back refused with the same answer, its count one up and its six numbers as they were, and so are x and P
   pub refused : is_done v ≡ false → (corrected s z ≡ Refused (blinded s) v) × (e.x ≡ b.x) × (e.P ≡ b.P)
   -- the refusals are 4, of the pivot 0, and 9
-  pub only : (v ≡ Done) ⊎ ((v ≡ Pivot 0) ⊎ (v ≡ NotFinite))
+  pub only : (v ≡ Ok tt) ⊎ ((v ≡ Err (Pivot 0)) ⊎ (v ≡ Err NotFinite))

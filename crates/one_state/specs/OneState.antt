@@ -1,10 +1,10 @@
 -- The filter of one yarn (R21), in the general filter's order of operations at n = m = 1, and its count of corrections refused in a row (R32). Definitions only.
-use Rattle.std.specs.Prelude.{◌≡◌, Bool, cond, ◌&&◌, ℕ, min, ◌+◌, Float}
+use Rattle.std.specs.Prelude.{◌≡◌, Bool, cond, ◌&&◌, ℕ, min, ◌+◌, Float, Ok, Err}
 use Rattle.std.specs.Float.{Format, binary32}
 use Rattle.std.specs.Float.Ieee.{add, sub, mul}
 use Rattle.std.specs.Float.Ieee.Scale.{finite}
-use Rattle.answers.specs.declared.Answer.{Answer}
-use Rattle.answers.specs.declared.Answer.TheVariants.{Done, Pivot, NotFinite}
+use Rattle.answers.specs.declared.Refusal.TheVariants.{Pivot, NotFinite}
+use Rattle.answers.specs.Answers.{Answer}
 use Rattle.numbers.specs.Reciprocal.{one, recip_of}
 use Rattle.numbers.specs.Root.{sqrt_of}
 use Rattle.numbers.specs.Sums.{plus0}
@@ -98,12 +98,12 @@ finite_xp s = finite s.x && finite s.p
 
 -- A pivot that is refused hands the record back blinded, with 4 and index 0; a new x or p that is not finite does so with 9.
 unfoldable pub corrected : OneState → Float → Corrected
-corrected s z = cond (pivot_taken (spread binary32 s.h s.p s.r)) (cond (finite_xp (renewed s z)) (Accepted (renewed s z)) (Refused (blinded s) NotFinite)) (Refused (blinded s) (Pivot 0))
+corrected s z = cond (pivot_taken (spread binary32 s.h s.p s.r)) (cond (finite_xp (renewed s z)) (Accepted (renewed s z)) (Refused (blinded s) (Err NotFinite))) (Refused (blinded s) (Err (Pivot 0)))
 
 -- ---- what a correction says: refusal 4 and the pivot's index, refusal 9, or done; and the record that it hands back
 
 abbrev pub answer_of : Corrected → Answer
-answer_of (Accepted s) = Done
+answer_of (Accepted s) = Ok tt
 answer_of (Refused s v) = v
 
 abbrev pub handed_back : Corrected → OneState

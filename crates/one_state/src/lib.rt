@@ -5,7 +5,7 @@
 ghost use Rattle.std.specs.Prelude.{◌≡◌};
 ghost use Rattle.one_state.specs.OneState.{fresh, blinded, predicted, corrected};
 
-use answers::Answer;
+use answers::{Answer, Refusal};
 use pivots::Pivot;
 
 // Tension on one yarn: the estimate x and its spread p, the model a and q, the reading's h and r; and
@@ -53,11 +53,7 @@ impl OneState {
         ensures { result ≡ blinded self }
     {
         let mut next = self;
-        next.blind = if self.blind < 255 {
-            self.blind + 1
-        } else {
-            255
-        };
+        next.blind = self.blind.saturating_add(1);
         next
     }
 
@@ -101,10 +97,10 @@ impl OneState {
                 if finite::is_finite(next.x) && finite::is_finite(next.p) {
                     Corrected::Accepted(next)
                 } else {
-                    Corrected::Refused(self.blinded(), Answer::NotFinite)
+                    Corrected::Refused(self.blinded(), Err(Refusal::NotFinite))
                 }
             }
-            Pivot::Refused(_) => Corrected::Refused(self.blinded(), Answer::Pivot(0)),
+            Pivot::Refused(_) => Corrected::Refused(self.blinded(), Err(Refusal::Pivot(0))),
         }
     }
 }

@@ -10,7 +10,7 @@ use answers::Answer;
 pub fn of_x(n: usize, x: usize, a: usize, predicted: usize) -> Answer
     ensures { result ≡ predict_x_answer n x a predicted }
 {
-    let states = answers::then_size(Answer::Done, 0, n);
+    let states = answers::then_size(Ok(()), 0, n);
     let before_a = answers::then_buffer(states, 0, n, x);
     let before_px = answers::then_matrix(before_a, 1, n, n, a);
     answers::then_buffer(before_px, 2, n, predicted)
@@ -20,7 +20,7 @@ pub fn of_x(n: usize, x: usize, a: usize, predicted: usize) -> Answer
 pub fn of_p(n: usize, a: usize, p: usize, q: usize, temp: usize) -> Answer
     ensures { result ≡ predict_p_answer n a p q temp }
 {
-    let states = answers::then_size(Answer::Done, 0, n);
+    let states = answers::then_size(Ok(()), 0, n);
     let before_p = answers::then_matrix(states, 0, n, n, a);
     let before_q = answers::then_matrix(before_p, 1, n, n, p);
     let before_temp = answers::then_matrix(before_q, 2, n, n, q);
@@ -39,7 +39,7 @@ pub fn of_both(
 ) -> Answer
     ensures { result ≡ predict_answer n x a p q predicted temp }
 {
-    let states = answers::then_size(Answer::Done, 0, n);
+    let states = answers::then_size(Ok(()), 0, n);
     let before_a = answers::then_buffer(states, 0, n, x);
     let before_p = answers::then_matrix(before_a, 1, n, n, a);
     let before_q = answers::then_matrix(before_p, 2, n, n, p);

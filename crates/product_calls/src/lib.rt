@@ -1,7 +1,7 @@
 // Calls of the products.
 #![tactic(auto)]
 
-use answers::Answer;
+use answers::{Answer, Refusal};
 use jobs::Job;
 use lists::Head;
 
@@ -18,6 +18,6 @@ pub fn product(j: Job, h: Head, a: &[f32], b: &[f32], c: &mut [f32], d: &mut [f3
         Job::MultscaleTransb => products::multscale_transb(r, k, w, &*a, &*b, h.u, c),
         Job::MultRowvector => products::mult_rowvector(r, k, &*a, &*b, c),
         Job::MultaddRowvector => products::multadd_rowvector(r, k, &*a, &*b, c),
-        _ => Answer::Size(99),
+        _ => Err(Refusal::Size(99)),
     }
 }

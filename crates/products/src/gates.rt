@@ -9,7 +9,7 @@ use answers::Answer;
 pub fn product(rows: usize, inner: usize, cols: usize, la: usize, lb: usize, lc: usize) -> Answer
     ensures { result ≡ product_answer rows inner cols la lb lc }
 {
-    let rows_taken = answers::then_size(Answer::Done, 0, rows);
+    let rows_taken = answers::then_size(Ok(()), 0, rows);
     let inner_taken = answers::then_size(rows_taken, 1, inner);
     let sizes = answers::then_size(inner_taken, 2, cols);
     let left = answers::then_matrix(sizes, 0, rows, inner, la);
@@ -21,7 +21,7 @@ pub fn product(rows: usize, inner: usize, cols: usize, la: usize, lb: usize, lc:
 pub fn row(rows: usize, inner: usize, la: usize, lx: usize, lc: usize) -> Answer
     ensures { result ≡ row_answer rows inner la lx lc }
 {
-    let rows_taken = answers::then_size(Answer::Done, 0, rows);
+    let rows_taken = answers::then_size(Ok(()), 0, rows);
     let sizes = answers::then_size(rows_taken, 1, inner);
     let left = answers::then_matrix(sizes, 0, rows, inner, la);
     answers::then_buffer(answers::then_buffer(left, 1, inner, lx), 2, rows, lc)

@@ -1,6 +1,7 @@
 // Products of matrices that lent buffers hold, row-major.
 //
-// Each public function asks its gate, and has its family's work done where the gate says done.
+// Each public function asks its gate, and has its family's work done where the gate says done: a promise of
+// its own, and two lines.
 #![tactic(auto)]
 
 mod gates;

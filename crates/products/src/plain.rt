@@ -9,11 +9,9 @@ use answers::Answer;
 pub fn mult(rows: usize, inner: usize, cols: usize, a: &[f32], b: &[f32], c: &mut [f32]) -> Answer
     ensures { Multiplied binary32 rows inner cols a.now b.now c.old result c.new }
 {
-    let v = gates::product(rows, inner, cols, a.len(), b.len(), c.len());
-    if answers::is_done(v) {
-        times_matrix::mult_cells(rows, inner, cols, &*a, &*b, c);
-    }
-    v
+    gates::product(rows, inner, cols, a.len(), b.len(), c.len())?;
+    times_matrix::mult_cells(rows, inner, cols, &*a, &*b, c);
+    Ok(())
 }
 
 // c = a·b, and aux ends with column 0 of b.
@@ -29,10 +27,8 @@ pub fn mult_buffered(
     ensures { Buffered binary32 rows inner cols a.now b.now c.old aux.old result c.new aux.new }
 {
     let matrices = gates::product(rows, inner, cols, a.len(), b.len(), c.len());
-    let v = answers::then_buffer(matrices, 3, inner, aux.len());
-    if answers::is_done(v) {
-        times_matrix::mult_cells(rows, inner, cols, &*a, &*b, c);
-        cells::cores::copy_column(inner, cols, &*b, 0, aux);
-    }
-    v
+    answers::then_buffer(matrices, 3, inner, aux.len())?;
+    times_matrix::mult_cells(rows, inner, cols, &*a, &*b, c);
+    cells::cores::copy_column(inner, cols, &*b, 0, aux);
+    Ok(())
 }

@@ -9,20 +9,16 @@ use answers::Answer;
 pub fn mult_rowvector(rows: usize, inner: usize, a: &[f32], x: &[f32], c: &mut [f32]) -> Answer
     ensures { RowMultiplied binary32 rows inner a.now x.now c.old result c.new }
 {
-    let v = gates::row(rows, inner, a.len(), x.len(), c.len());
-    if answers::is_done(v) {
-        times_vector::rowvector_cells(rows, inner, &*a, &*x, c);
-    }
-    v
+    gates::row(rows, inner, a.len(), x.len(), c.len())?;
+    times_vector::rowvector_cells(rows, inner, &*a, &*x, c);
+    Ok(())
 }
 
 // c = c + a·x.
 pub fn multadd_rowvector(rows: usize, inner: usize, a: &[f32], x: &[f32], c: &mut [f32]) -> Answer
     ensures { RowAdded binary32 rows inner a.now x.now c.old result c.new }
 {
-    let v = gates::row(rows, inner, a.len(), x.len(), c.len());
-    if answers::is_done(v) {
-        times_vector::rowvector_add_cells(rows, inner, &*a, &*x, c);
-    }
-    v
+    gates::row(rows, inner, a.len(), x.len(), c.len())?;
+    times_vector::rowvector_add_cells(rows, inner, &*a, &*x, c);
+    Ok(())
 }

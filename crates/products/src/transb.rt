@@ -16,11 +16,9 @@ pub fn mult_transb(
 ) -> Answer
     ensures { MultipliedT binary32 rows inner cols a.now b.now c.old result c.new }
 {
-    let v = gates::product(rows, inner, cols, a.len(), b.len(), c.len());
-    if answers::is_done(v) {
-        times_transpose::transb_cells(rows, inner, cols, &*a, &*b, c);
-    }
-    v
+    gates::product(rows, inner, cols, a.len(), b.len(), c.len())?;
+    times_transpose::transb_cells(rows, inner, cols, &*a, &*b, c);
+    Ok(())
 }
 
 // c = c + a·bᵀ.
@@ -34,11 +32,9 @@ pub fn multadd_transb(
 ) -> Answer
     ensures { AddedT binary32 rows inner cols a.now b.now c.old result c.new }
 {
-    let v = gates::product(rows, inner, cols, a.len(), b.len(), c.len());
-    if answers::is_done(v) {
-        times_transpose::transb_add_cells(rows, inner, cols, &*a, &*b, c);
-    }
-    v
+    gates::product(rows, inner, cols, a.len(), b.len(), c.len())?;
+    times_transpose::transb_add_cells(rows, inner, cols, &*a, &*b, c);
+    Ok(())
 }
 
 // c = a·bᵀ·scale.
@@ -53,9 +49,7 @@ pub fn multscale_transb(
 ) -> Answer
     ensures { ScaledT binary32 rows inner cols a.now b.now scale c.old result c.new }
 {
-    let v = gates::product(rows, inner, cols, a.len(), b.len(), c.len());
-    if answers::is_done(v) {
-        times_transpose::transb_scale_cells(rows, inner, cols, &*a, &*b, scale, c);
-    }
-    v
+    gates::product(rows, inner, cols, a.len(), b.len(), c.len())?;
+    times_transpose::transb_scale_cells(rows, inner, cols, &*a, &*b, scale, c);
+    Ok(())
 }

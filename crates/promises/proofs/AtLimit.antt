@@ -9,7 +9,8 @@ use lib.IntN.{ℤ, pos, negsuc, nat_abs}
 use lib.ListN.{get_or}
 use lib.Ieee.{Float, Format, binary32, binary64, prec, of_int}
 use lib.Ieee.Back.{round_whole}
-use Rattle.answers.specs.declared.Answer.TheVariants.{Done, Size}
+use Rattle.std.proofs.Common.{Ok, Err}
+use Rattle.answers.specs.declared.Refusal.TheVariants.{Size}
 use Rattle.numbers.specs.Whole.{Whole, sumℤ, abs_sum}
 use Rattle.grids.specs.Grid.{run, grid}
 use Rattle.entries.specs.Entries.{numbers}
@@ -71,12 +72,12 @@ abbrev temp' : List Float
 temp' = grid 2 2 (temp_p binary32 2 (floats a) (floats p)) (floats p)
 
 -- the prediction; its work buffers are lent as copies of x and P
-call : Predicted binary32 2 (floats x) (floats a) (floats p) (floats q) (floats x) (floats p) Done x' P' x' temp'
+call : Predicted binary32 2 (floats x) (floats a) (floats p) (floats q) (floats x) (floats p) (Ok tt) x' P' x' temp'
 unfolding predict_answer
 call = record { answer = refl; x_after = refl; p_after = refl; predicted_x_after = refl; temp_p_after = refl }
 
 -- before it, a prediction refused for its size
-before : Predicted binary32 17 (floats x) [] (floats p) [] [] [] (Size 0) (floats x) (floats p) [] []
+before : Predicted binary32 17 (floats x) [] (floats p) [] [] [] (Err (Size 0)) (floats x) (floats p) [] []
 unfolding predict_answer
 before = record { answer = refl; x_after = refl; p_after = refl; predicted_x_after = refl; temp_p_after = refl }
 
@@ -84,7 +85,7 @@ before = record { answer = refl; x_after = refl; p_after = refl; predicted_x_aft
 abbrev buffers : Buffers
 buffers = record { x = x'; P = P'; H = []; z = []; R = []; y = []; S = []; K = []; s_inv = []; HP = []; PHt = []; KHP = [] }
 
-after : Corrected binary32 2 0 buffers (Size 1) buffers
+after : Corrected binary32 2 0 buffers (Err (Size 1)) buffers
 unfolding correct_answer
 after = record {
   y_after = refl;
@@ -102,9 +103,9 @@ whole_a : HoldsMatrix 2 (floats a) (entries a)
 whole_a = four _ (int_whole binary32 (pos 1) (omega arith)) (int_whole binary32 (pos 1) (omega arith)) (int_whole binary32 (pos 0) (omega arith)) (int_whole binary32 (pos 1) (omega arith))
 
 went : Run binary32 2 ms ss start (state x' P')
-went = refused_predict_in_a_run (Size 0) before refl (predict call refl whole_a
+went = refused_predict_in_a_run (Err (Size 0)) before refl (predict call refl whole_a
     (four _ (int_whole binary32 (pos 1) (omega arith)) (int_whole binary32 (pos 0) (omega arith)) (int_whole binary32 (pos 0) (omega arith)) (int_whole binary32 (pos 1) (omega arith)))
-    (refused_correction_in_a_run (Size 1) after refl end))
+    (refused_correction_in_a_run (Err (Size 1)) after refl end))
 
 pub premise_met_x : WholeX binary32 2 ms ss start (state x' P') (λ r. get_or x r (pos 0))
 unfolding abs_sum sumℤ

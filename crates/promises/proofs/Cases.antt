@@ -5,7 +5,8 @@ use mathlib.Core.Path.{◌≡◌, refl}
 use mathlib.Core.Bool.{Bool, true, false, cond, ◌&&◌}
 use mathlib.Core.List.{[], ◌∷◌}
 use lib.Ieee.{Float, Format, binary32}
-use Rattle.answers.specs.declared.Answer.TheVariants.{Pivot, NotFinite}
+use Rattle.std.proofs.Common.{Err}
+use Rattle.answers.specs.declared.Refusal.TheVariants.{Pivot, NotFinite}
 use Rattle.answers.specs.Answers.{number_of, carried_by}
 use Rattle.numbers.specs.Reciprocal.{recip_of}
 use Rattle.numbers.specs.Root.{sqrt_of}
@@ -28,7 +29,7 @@ pivot_says f s = pivot_by (pivot_taken s) (sqrt_of f s) (recip_of f (sqrt_of f s
 
 -- ---- the record s by the reading z: t says whether S is taken, and u whether the new x and p are finite; s' is what comes back refused
 record_by : (t u : Bool) (next s' : OneState)
-    → let c = cond t (cond u (one.Accepted next) (one.Refused s' NotFinite)) (one.Refused s' (Pivot 0)) in
+    → let c = cond t (cond u (one.Accepted next) (one.Refused s' (Err NotFinite))) (one.Refused s' (Err (Pivot 0))) in
     (number_of (answer_of c) ≡ cond t (cond u 0 9) 4)
     × (carried_by (answer_of c) ≡ cond t [] (0 ∷ []))
     × (handed_back c ≡ cond (t && u) next s')

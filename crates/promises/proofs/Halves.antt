@@ -6,8 +6,7 @@ use mathlib.Core.List.{List, [], ◌∷◌}
 use Prim.Native.Nat.{ℕ, ◌*◌}
 use lib.ListN.{length}
 use lib.Ieee.{Float, Format}
-use Rattle.answers.specs.declared.Answer.{Answer}
-use Rattle.answers.specs.Answers.{is_done}
+use Rattle.answers.specs.Answers.{is_done, Answer}
 use Rattle.answers.specs.Tests.{Lent, lent}
 use Rattle.answers.specs.Exactly.{All, holds}
 use Rattle.answers.proofs.Table.{passed, passes}

@@ -5,8 +5,7 @@ use mathlib.Core.Bool.{false}
 use mathlib.Core.List.{List}
 use Prim.Native.Nat.{ℕ}
 use lib.Ieee.{Float, Format}
-use Rattle.answers.specs.declared.Answer.{Answer}
-use Rattle.answers.specs.Answers.{is_done}
+use Rattle.answers.specs.Answers.{is_done, Answer}
 use Rattle.grids.specs.Grid.{cell}
 use Rattle.entries.specs.Entries.{numbers}
 use Rattle.filters.specs.Predicted.{Predicted, PredictedX, PredictedP}

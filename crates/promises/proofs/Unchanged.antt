@@ -5,8 +5,9 @@ use mathlib.Core.Bool.{false}
 use mathlib.Core.List.{List}
 use Prim.Native.Nat.{ℕ}
 use lib.Ieee.{Float, Format}
-use Rattle.answers.specs.declared.Answer.{Answer}
-use Rattle.answers.specs.Answers.{is_done, settled}
+use Rattle.std.specs.Prelude.{Err}
+use Rattle.answers.specs.declared.Refusal.{Refusal}
+use Rattle.answers.specs.Answers.{is_done, settled, Answer}
 use Rattle.grids.specs.Cells.{Set, SetBoth, RowCopied, ColumnCopied, Copied, Filled, DiagonalSet, Comatrix}
 use Rattle.grids.specs.Sums.{Combined, InPlace}
 use Rattle.entries.specs.Products.{Multiplied, Buffered, MultipliedT, AddedT, ScaledT, RowMultiplied, RowAdded}
@@ -16,8 +17,6 @@ use Rattle.one_state.specs.declared.OneState.{OneState}
 use Rattle.rows.specs.declared.Corrections.TheVariants.{Refused}
 use Rattle.rows.specs.Rows.{PredictedRow, CorrectedRow}
 use Rattle.rows.proofs.Theorems.{refused_prediction_keeps, refused_row_keeps}
-use Rattle.cards.specs.declared.Card.TheVariants as card
-use Rattle.cards.specs.declared.Written.TheVariants as written
 use Rattle.cards.specs.Read.{CardRead}
 use Rattle.cards.specs.Written.{CardWritten}
 use Rattle.cards.proofs.Theorems.{refused_keeps, refused_keeps_bytes}
@@ -113,10 +112,11 @@ module _ (v : Answer) (no : is_done v ≡ false) where
     pub correct_row_unchanged : {zs : List Float} → CorrectedRow row zs (Refused v) row' → row' ≡ row
     correct_row_unchanged p = refused_row_keeps p no
 
-  -- ---- settings cards
-  pub read_card_unchanged : {f : Format} {d : ℕ} {s : List ℕ} {a q h r a' q' h' r' : List Float} → CardRead f d s a q h r (card.Refused v) a' q' h' r'
+-- ---- settings cards, refused with v
+module _ {v : Refusal} {f : Format} where
+  pub read_card_unchanged : {d : ℕ} {s : List ℕ} {a q h r a' q' h' r' : List Float} → CardRead f d s a q h r (Err v) a' q' h' r'
       → (a' ≡ a) × (q' ≡ q) × (h' ≡ h) × (r' ≡ r)
   read_card_unchanged p = refused_keeps p v refl
 
-  pub write_card_unchanged : {f : Format} {d n m : ℕ} {a q h r : List Float} {b b' : List ℕ} → CardWritten f d n m a q h r b (written.Refused v) b' → b' ≡ b
+  pub write_card_unchanged : {d n m : ℕ} {a q h r : List Float} {b b' : List ℕ} → CardWritten f d n m a q h r b (Err v) b' → b' ≡ b
   write_card_unchanged p = refused_keeps_bytes p v refl

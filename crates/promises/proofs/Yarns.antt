@@ -7,7 +7,7 @@ use Prim.Native.Nat.{ℕ, zero, suc, ◌<◌}
 use native.Mathlib.Omega.{arith}
 use lib.IntN.{ℤ}
 use lib.Ieee.{Float, binary32, ne}
-use Rattle.answers.specs.declared.Answer.TheVariants.{Done}
+use Rattle.std.proofs.Common.{Ok}
 use Rattle.numbers.specs.Whole.{Whole}
 use Rattle.grids.specs.Grid.{run, grid}
 use Rattle.filters.specs.Prediction.{predicted_x, temp_p, predicted_p}
@@ -42,14 +42,14 @@ module _ (s : OneState) where
   abbrev temp' : List Float
   temp' = grid 1 1 (temp_p binary32 1 (s.a ∷ []) (s.p ∷ [])) (s.p ∷ [])
 
-  call : Predicted binary32 1 (s.x ∷ []) (s.a ∷ []) (s.p ∷ []) (s.q ∷ []) (s.x ∷ []) (s.p ∷ []) Done x' P' x' temp'
+  call : Predicted binary32 1 (s.x ∷ []) (s.a ∷ []) (s.p ∷ []) (s.q ∷ []) (s.x ∷ []) (s.p ∷ []) (Ok tt) x' P' x' temp'
   unfolding predict_answer
   call = record { answer = refl; x_after = refl; p_after = refl; predicted_x_after = refl; temp_p_after = refl }
 
   -- the record's prediction leaves the same numbers
   moved : SameFront 1 (state x' P') (state_of (predicted s))
   moved =
-      let agrees = predict_agrees s (s.x ∷ []) (s.a ∷ []) (s.p ∷ []) (s.q ∷ []) (s.x ∷ []) (s.p ∷ []) Done x' P' x' temp' refl refl refl refl call refl in
+      let agrees = predict_agrees s (s.x ∷ []) (s.a ∷ []) (s.p ∷ []) (s.q ∷ []) (s.x ∷ []) (s.p ∷ []) (Ok tt) x' P' x' temp' refl refl refl refl call refl in
       record { x = only _ (sym agrees.0); P = only-cell _ (sym agrees.1) }
 
 -- ---- a run

@@ -1,7 +1,6 @@
 -- How long a yarn has been blind (R32): the calls of a record one after the other, and what its count says of them. Definitions only.
 use Rattle.std.specs.Prelude.{◌≡◌, Bool, true, cond, not, ◌&&◌, List, [], ◌∷◌, ℕ, suc, Float}
-use Rattle.answers.specs.declared.Answer.{Answer}
-use Rattle.answers.specs.Answers.{is_done}
+use Rattle.answers.specs.Answers.{is_done, Answer}
 use Rattle.one_state.specs.declared.OneState.{OneState}
 use Rattle.one_state.specs.OneState.{predicted, corrected, answer_of, handed_back}
 

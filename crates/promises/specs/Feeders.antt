@@ -1,7 +1,6 @@
 -- A row of feeders over many calls, read at one of them, the i-th (R33): whole numbers, a night, a blind shift. Each call is lent a row, and the next one the row that it left. Definitions only.
 use Rattle.std.specs.Prelude.{◌≡◌, true, false, List, [], ◌∷◌, ℕ, ℤ, length, Float}
-use Rattle.answers.specs.declared.Answer.{Answer}
-use Rattle.answers.specs.Answers.{is_done}
+use Rattle.answers.specs.Answers.{is_done, Answer}
 use Rattle.numbers.specs.Whole.{Whole}
 use Rattle.one_state.specs.declared.OneState.{OneState}
 use Rattle.one_state.specs.OneState.{finite_xp}

@@ -1,7 +1,7 @@
 -- A night: corrections and updates one after the other, of any number, through what the functions promise (R31). Definitions only.
 use Rattle.std.specs.Prelude.{ℕ}
 use Rattle.std.specs.Float.{Format}
-use Rattle.answers.specs.declared.Answer.{Answer}
+use Rattle.answers.specs.Answers.{Answer}
 use Rattle.filters.specs.Lent.{Buffers}
 use Rattle.filters.specs.Corrected.{Updated, Corrected}
 use Rattle.filters.specs.Outcomes.{HeldFinite}

@@ -1,8 +1,7 @@
 -- A run: calls one after the other, of any number, through what the functions promise. Definitions only.
 use Rattle.std.specs.Prelude.{◌≡◌, true, List, [], ◌∷◌, ℕ, ◌<◌, Float}
 use Rattle.std.specs.Float.{Format}
-use Rattle.answers.specs.declared.Answer.{Answer}
-use Rattle.answers.specs.Answers.{is_done}
+use Rattle.answers.specs.Answers.{is_done, Answer}
 use Rattle.numbers.specs.Whole.{Whole}
 use Rattle.grids.specs.Grid.{cell, Same}
 use Rattle.entries.specs.Entries.{numbers}

@@ -1,8 +1,8 @@
 -- The checked examples (R26), of the definitions themselves: one table, bits in hexadecimal. `proofs/Table.antt` computes it. Definitions only.
-use Rattle.std.specs.Prelude.{Bool, true, false, not, ◌&&◌, List, [], ◌∷◌, ◌++◌, map, ℕ, eqb, length, replicate, Float}
+use Rattle.std.specs.Prelude.{Bool, true, false, not, ◌&&◌, List, [], ◌∷◌, ◌++◌, map, ℕ, eqb, length, replicate, Float, Err}
 use Rattle.std.specs.Float.{binary32}
 use Rattle.std.specs.Float.Ieee.{of_bits, to_bits}
-use Rattle.answers.specs.declared.Answer.TheVariants.{Size, Short}
+use Rattle.answers.specs.declared.Refusal.TheVariants.{Size, Short}
 use Rattle.answers.specs.Answers.{number_of, carried_by, settled}
 use Rattle.numbers.specs.Root.{sqrt_of}
 use Rattle.numbers.specs.Proposed.{accepts}
@@ -220,8 +220,8 @@ table =
     -- rows of such records by 5: of none, of two, of thirteen, and of two by one reading
     && corrects [] (0x40a00000 ∷ []) (All 0) []
     && corrects (feeder ∷ feeder ∷ []) (0x40a00000 ∷ 0x40a00000 ∷ []) (All 2) ((0x40800000, 0x3f400000, 0) ∷ (0x40800000, 0x3f400000, 0) ∷ [])
-    && corrects (replicate 13 feeder) (replicate 13 0x40a00000) (Refused (Size 0)) (replicate 13 feeder)
-    && corrects (feeder ∷ feeder ∷ []) (0x40a00000 ∷ []) (Refused (Short 1)) (feeder ∷ feeder ∷ [])
+    && corrects (replicate 13 feeder) (replicate 13 0x40a00000) (Refused (Err (Size 0))) (replicate 13 feeder)
+    && corrects (feeder ∷ feeder ∷ []) (0x40a00000 ∷ []) (Refused (Err (Short 1))) (feeder ∷ feeder ∷ [])
     -- of three by 5, NaN and 5, and by NaN, 5 and +∞: a refused one stays as it was among the others, its count one up, and the first is named
     && corrects (feeder ∷ feeder ∷ feeder ∷ []) (0x40a00000 ∷ 0x7fc00000 ∷ 0x40a00000 ∷ []) (Part 2 1)
     ((0x40800000, 0x3f400000, 0) ∷ (0x3f800000, 0x40400000, 1) ∷ (0x40800000, 0x3f400000, 0) ∷ [])

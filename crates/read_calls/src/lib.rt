@@ -1,7 +1,7 @@
 // Calls that read a matrix: one cell, a row, a column or the whole.
 #![tactic(auto)]
 
-use answers::Answer;
+use answers::{Answer, Refusal};
 use jobs::Job;
 use lists::Head;
 
@@ -18,13 +18,10 @@ pub fn told(v: Answer) -> Got {
 }
 
 // A cell that was read, or the refusal.
-fn cell(r: row_major::Read) -> Got {
+fn cell(r: Result<f32, Refusal>) -> Got {
     match r {
-        row_major::Read::Value(x) => Got {
-            v: Answer::Done,
-            x: x,
-        },
-        row_major::Read::Refused(v) => told(v),
+        Ok(x) => Got { v: Ok(()), x: x },
+        Err(why) => told(Err(why)),
     }
 }
 
@@ -37,6 +34,6 @@ pub fn read(j: Job, h: Head, a: &[f32], b: &mut [f32]) -> Got {
         Job::GetRowCopy => told(row_major::get_row_copy(n, c, &*a, h.row, b)),
         Job::GetColumnCopy => told(row_major::get_column_copy(n, c, &*a, h.column, b)),
         Job::CopyTo => told(row_major::copy_to(n, c, &*a, b)),
-        _ => told(Answer::Size(99)),
+        _ => told(Err(Refusal::Size(99))),
     }
 }

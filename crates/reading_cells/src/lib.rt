@@ -4,7 +4,6 @@
 
 ghost use Rattle.std.specs.Prelude.{◌≡◌, [], ◌≤◌, length};
 ghost use Rattle.std.specs.Float.{binary32};
-ghost use Rattle.answers.specs.declared.Answer.TheVariants.{Done};
 ghost use Rattle.grids.specs.Grid.{cell, run};
 ghost use Rattle.entries.specs.Entries.{numbers};
 ghost use Rattle.filters.specs.Correction.{innovation_of};
@@ -33,7 +32,7 @@ pub fn correct_cells(
 ) -> Answer
     requires { Held n m (buffers x.old p.old h.now [] r.now y.old s.old k.old temp_s_inv.old temp_hp.old temp_pht.old temp_khp.old) × (m ≤ length z.now) }
     ensures y { y.new ≡ run 0 m (innovation_of binary32 n (cell n h.now) (numbers x.old) (numbers z.now)) y.old }
-    ensures renewed { Renewed binary32 n m Done result
+    ensures renewed { Renewed binary32 n m (Ok tt) result
         (buffers x.old p.old h.now [] r.now y.new s.old k.old temp_s_inv.old temp_hp.old temp_pht.old temp_khp.old)
         (buffers x.new p.new h.now [] r.now y.new s.new k.new temp_s_inv.new temp_hp.new temp_pht.new temp_khp.new) }
 {

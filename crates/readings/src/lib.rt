@@ -51,13 +51,8 @@ pub fn correct(
             x, p, &*h, &*z, &*r, y, s, k, temp_s_inv, temp_hp, temp_pht, temp_khp,
         );
     }
-    let v = observation_gates::correction(
-        n, m, lx, lp, lh, lz, lr, ly, ls, lk, li, lhp, lpht, lkhp,
-    );
-    if answers::is_done(v) {
-        return reading_cells::correct_cells(
-            n, m, x, p, &*h, &*z, &*r, y, s, k, temp_s_inv, temp_hp, temp_pht, temp_khp,
-        );
-    }
-    v
+    observation_gates::correction(n, m, lx, lp, lh, lz, lr, ly, ls, lk, li, lhp, lpht, lkhp)?;
+    reading_cells::correct_cells(
+        n, m, x, p, &*h, &*z, &*r, y, s, k, temp_s_inv, temp_hp, temp_pht, temp_khp,
+    )
 }

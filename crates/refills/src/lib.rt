@@ -1,7 +1,7 @@
 // A buffer that is filled again and again: what is kept of one fill stands at the front of the next.
 #![tactic(auto)]
 
-ghost use Rattle.std.specs.Prelude.{◌≡◌, ◌<◌, ◌≤◌, length, take, IfOk};
+ghost use Rattle.std.specs.Prelude.{◌≡◌, ◌-◌, ◌<◌, ◌≤◌, length, take, drop, IfOk};
 ghost use Rattle.std.specs.Io.{ReadsAtMost};
 ghost use Rattle.std.specs.Io.KnownBytes.{Consumes, IsAtEnd};
 
@@ -9,7 +9,8 @@ use std::io;
 use std::io::Read;
 
 // Reads until the space is full or the input ends: how many bytes there are at the front of the space
-// then. An error is one that a read gave.
+// then. An error is one that a read gave. How far a turn goes is what the reader says, so no range
+// counts them.
 pub fn read_full<R: Read>(input: &mut R, space: &mut [u8]) -> io::Result<usize>
     ensures in_bounds { ReadsAtMost result space.new }
     ensures bytes { IfOk result (λ n. Consumes (R.remaining input.old) (R.remaining input.new) (take n space.new)) }
@@ -47,24 +48,41 @@ pub fn lines_end(space: &[u8], got: usize) -> usize
     if got < space.len() {
         return got;
     }
-    let mut i = space.len();
-    while 0 < i {
-        if space[i - 1] == b'\n' {
-            return i;
-        }
-        i -= 1;
+    match space.iter().rposition(|b| *b == b'\n') {
+        Some(last) => last + 1,
+        None => space.len(),
     }
-    space.len()
 }
 
-// Moves the bytes from a position on to the front: how many there are.
-pub fn move_down(space: &mut [u8], from: usize) -> usize {
-    let mut to: usize = 0;
-    let mut i = from;
-    while i < space.len() {
-        space[to] = space[i];
-        to += 1;
-        i += 1;
+// Moves the bytes from a position on to the front: how many there are, none where it lies past the end.
+pub fn move_down(space: &mut [u8], from: usize) -> usize
+    ensures count { result ≡ length space.old - from }
+    ensures front { take result space.new ≡ drop from space.old }
+{
+    let start = from.min(space.len());
+    space.copy_within(start.., 0);
+    space.len() - start
+}
+
+// Hands the whole lines of the input to `read`, as many at a time as the space holds. An unfinished line
+// is moved to the front and read on; one that is longer than the space is handed on in parts. An error is
+// one of a read, or of `read`. 2³² fills of the space are more than any list has.
+pub fn feed<R: Read, F: FnMut(&[u8]) -> io::Result<()>>(
+    input: &mut R,
+    space: &mut [u8],
+    mut read: F,
+) -> io::Result<()>
+    requires { F.IsAlwaysCallable read }
+{
+    let mut kept: usize = 0;
+    for _ in 0..0x1_0000_0000u64 {
+        let got = refill(input, kept, space)?;
+        let end = lines_end(space, got);
+        read(&space[..end])?;
+        if got < space.len() {
+            break;
+        }
+        kept = move_down(space, end);
     }
-    to
+    Ok(())
 }

@@ -11,7 +11,7 @@ ghost use Rattle.entries.specs.Entries.{times, numbers};
 ghost use Rattle.filters.specs.Correction.{new_x};
 ghost use Rattle.filters.specs.Corrected.{finite_answer};
 
-use answers::Answer;
+use answers::{Answer, Refusal};
 
 // temp_KHP = K·temp_HP; and x = x + K·y and P = P − temp_KHP where every number of both is finite, else
 // refusal 9, and they are as lent. K·y waits in an array of its own, so nothing is written before all
@@ -38,7 +38,7 @@ pub fn renew_cells(
     if finite::sums_finite(n, x, &ky) && finite::differences_finite(n * n, p, temp_khp) {
         sums::cores::add_cells_a(n, x, &ky);
         sums::cores::sub_cells_a(n * n, p, temp_khp);
-        return Answer::Done;
+        return Ok(());
     }
-    Answer::NotFinite
+    Err(Refusal::NotFinite)
 }

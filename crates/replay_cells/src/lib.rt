@@ -1,7 +1,7 @@
 // A line of a function on cells, of the decomposition or of the inverse: at most two buffers.
 #![tactic(auto)]
 
-use answers::Answer;
+use answers::{Answer, Refusal};
 use jobs::Job;
 use lists::{Head, Seen, Shape, head_at, lend, seen};
 
@@ -21,31 +21,30 @@ fn write(j: Job, h: Head, a: &mut [f32], b: &mut [f32]) -> Answer {
         Job::MakeComatrix => row_major::make_comatrix(n, a, h.u, h.v),
         Job::CholeskyDecomposeLower => cholesky::cholesky_decompose_lower(n, a),
         Job::InvertLCholesky => inverse::invert_l_cholesky(n, a, b),
-        _ => Answer::Size(99),
+        _ => Err(Refusal::Size(99)),
     }
 }
 
 // The call of a line, compared.
 pub fn compare(s: &[u8], at: usize, j: Job, h: Shape) -> Seen {
     let head = head_at(s, at, h);
-    let a = lend(s, head.next, 0 < h.buffers);
-    let b = lend(s, a.next, 1 < h.buffers);
-    let mut left = a.cells;
-    let mut right = b.cells;
-    let la = a.len;
-    let lb = b.len;
+    let mut a = lend(s, head.next, 0 < h.buffers);
+    let mut b = lend(s, a.next, 1 < h.buffers);
     let got = match j {
         Job::Get | Job::GetRowCopy | Job::GetColumnCopy | Job::CopyTo => read_calls::read(
             j,
             head,
-            &left[..la],
-            &mut right[..lb],
+            a.numbers(),
+            b.numbers_mut(),
         ),
-        _ => read_calls::told(write(j, head, &mut left[..la], &mut right[..lb])),
+        _ => read_calls::told(write(j, head, a.numbers_mut(), b.numbers_mut())),
     };
-    let v = got.v;
-    let answered = seen::answer_met(s, b.next, v);
-    let valued = seen::value_met(s, answered, got.x, h.value);
-    let first = seen::buffer_met(s, valued, 0, &left, la, 0 < h.buffers);
-    seen::buffer_met(s, first, 1, &right, lb, 1 < h.buffers)
+    let answered = seen::answer_met(s, b.next, got.v);
+    let valued = if h.value {
+        seen::value_met(s, answered, got.x)
+    } else {
+        answered
+    };
+    let all = [a.numbers(), b.numbers()];
+    seen::buffers_met(s, valued, &all[..h.buffers.min(2)])
 }

@@ -6,22 +6,8 @@ ghost use Rattle.std.specs.Prelude.{◌≡◌};
 ghost use Rattle.replay_yarn.specs.Yarn.{seven_at, blind_at, lent_at, yarn_met, predict_met, correct_met};
 
 use answers::Answer;
-use lists::{Seen, Shape, head_at, seen};
+use lists::{Seen, Shape, Spelt, head_at, seen};
 use one_state::{Corrected, OneState};
-
-// A record as a line has it, and the position behind it.
-#[derive(Clone, Copy)]
-struct Lent {
-    yarn: OneState,
-    next: usize,
-}
-
-// How often a record was refused in a row, as a line has it, and the position behind it.
-#[derive(Clone, Copy)]
-struct Blind {
-    blind: u8,
-    next: usize,
-}
 
 // The position behind a count of seven. Behind any other the line is lost.
 fn seven_at(s: &[u8], at: usize) -> usize
@@ -36,25 +22,25 @@ fn seven_at(s: &[u8], at: usize) -> usize
 }
 
 // The byte at a position. Behind a larger number the line is lost.
-fn blind_at(s: &[u8], at: usize) -> Blind
+fn blind_at(s: &[u8], at: usize) -> Spelt<u8>
     ensures { result ≡ blind_at s.now at }
 {
     let w = lines::word_at(s, at);
-    if w.bits < 256 {
-        Blind {
-            blind: w.bits as u8,
+    match u8::try_from(w.bits) {
+        Ok(value) => Spelt {
+            value,
             next: w.next,
-        }
-    } else {
-        Blind {
-            blind: 0,
+        },
+        Err(_) => Spelt {
+            value: 0,
             next: lines::LOST,
-        }
+        },
     }
 }
 
 // The record at a position.
-fn lend(s: &[u8], at: usize) -> Lent
+#[tactic(auto, unfolding(crate::specs::Yarn::lent_at))]
+fn lend(s: &[u8], at: usize) -> Spelt<OneState>
     ensures { result ≡ lent_at s.now at }
 {
     let x = lines::word_at(s, seven_at(s, at));
@@ -64,21 +50,22 @@ fn lend(s: &[u8], at: usize) -> Lent
     let h = lines::word_at(s, q.next);
     let r = lines::word_at(s, h.next);
     let b = blind_at(s, r.next);
-    Lent {
-        yarn: OneState {
+    Spelt {
+        value: OneState {
             x: lines::float_of(x.bits),
             p: lines::float_of(p.bits),
             a: lines::float_of(a.bits),
             q: lines::float_of(q.bits),
             h: lines::float_of(h.bits),
             r: lines::float_of(r.bits),
-            blind: b.blind,
+            blind: b.value,
         },
         next: b.next,
     }
 }
 
 // The answer and the record that came back against the words at a position.
+#[tactic(auto, unfolding(crate::specs::Yarn::yarn_met))]
 fn met(s: &[u8], at: usize, v: Answer, yarn: OneState) -> Seen
     ensures { result ≡ yarn_met s.now at v yarn }
 {
@@ -94,24 +81,26 @@ fn met(s: &[u8], at: usize, v: Answer, yarn: OneState) -> Seen
 }
 
 // The prediction of a line, compared.
+#[tactic(auto, unfolding(crate::specs::Yarn::predict_met))]
 pub fn predict(s: &[u8], at: usize, h: Shape) -> Seen
     ensures { result ≡ predict_met s.now at h }
 {
     let head = head_at(s, at, h);
     let lent = lend(s, head.next);
-    let yarn = lent.yarn;
-    met(s, lent.next, Answer::Done, yarn.predict())
+    let yarn = lent.value;
+    met(s, lent.next, Ok(()), yarn.predict())
 }
 
 // The correction of a line, compared.
+#[tactic(auto, unfolding(crate::specs::Yarn::correct_met))]
 pub fn correct(s: &[u8], at: usize, h: Shape) -> Seen
     ensures { result ≡ correct_met s.now at h }
 {
     let head = head_at(s, at, h);
     let lent = lend(s, head.next);
-    let yarn = lent.yarn;
+    let yarn = lent.value;
     match yarn.correct(head.u) {
-        Corrected::Accepted(next) => met(s, lent.next, Answer::Done, next),
+        Corrected::Accepted(next) => met(s, lent.next, Ok(()), next),
         Corrected::Refused(same, why) => met(s, lent.next, why, same),
     }
 }

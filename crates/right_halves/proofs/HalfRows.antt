@@ -1,6 +1,6 @@
 -- The right half of a row, which is written in two times four cells, and rows whose right halves are written two at a time from the last upward, and then the
 -- rows above them whole. Assumes nothing.
-use mathlib.Core.Path.{◌≡◌, refl, sym, ap, ◌∙◌}
+use mathlib.Core.Path.{◌≡◌, sym, ap, subst, ◌∙◌}
 use mathlib.Core.List.{List}
 use Prim.Native.Nat.{ℕ, ◌+◌, ◌-◌, ◌*◌, ◌<◌, ◌≤◌}
 use native.Mathlib.Nat.{mul-le-mul_right}
@@ -69,10 +69,6 @@ pub record Halved (cols : ℕ) (e : ℕ → ℕ → Float) (l₀ l : List Float)
   pub right : (i j : ℕ) → r ≤ i → i < cols → 8 ≤ j → j < cols → cell cols l i j ≡ e i j
   pub past : (k : ℕ) → cols * cols ≤ k → get_or l k nan ≡ get_or l₀ k nan
 
--- before the first turn none is
-pub none_halved : {cols : ℕ} {e : ℕ → ℕ → Float} {l₀ : List Float} → 12 ≤ cols → Halved cols e l₀ l₀ cols
-none_halved h = record { within = omega arith; low = omega arith; size = refl; right = λ i j hr hi. absurd (omega arith); past = λ k hk. refl }
-
 -- a turn writes those of the two rows before r, the upper one first
 pub two_halved :
     {cols : ℕ} {e : ℕ → ℕ → Float} {l₀ l l' : List Float} {r s : ℕ} → cols * cols ≤ length l₀ → Halved cols e l₀ l r → 10 ≤ r → s + 2 ≡ r
@@ -112,9 +108,10 @@ two_halved {cols} {e} {l₀} {l} {l'} {r} {s} fits w h q new =
 
 -- With the rows above r written whole, all on the diagonal and above it is there, and the rest of the buffer is as it was.
 pub all_halved :
-    {cols : ℕ} {e : ℕ → ℕ → Float} {l₀ l l' : List Float} {r : ℕ} → cols * cols ≤ length l₀ → Halved cols e l₀ l r → l' ≡ grid r cols e l
+    {cols : ℕ} {e : ℕ → ℕ → Float} {l₀ l l' : List Float} {d r : ℕ} → cols * cols ≤ length l₀ → Halved cols e l₀ l d → d ≡ r → l' ≡ grid r cols e l
     → SameUpper cols (cell cols l') e × (length l' ≡ length l₀) × ((k : ℕ) → cols * cols ≤ k → get_or l' k nan ≡ get_or l₀ k nan)
-all_halved {cols} {e} {l₀} {l} {l'} {r} fits w new =
+all_halved {cols} {e} {l₀} {l} {l'} {d} {r} fits q same new =
+    let w : Halved cols e l₀ l r = subst (Halved cols e l₀ l) same q in
     let size : length l ≡ length l₀ = w.size in
     let upper : r * cols ≤ cols * cols = mul-le-mul_right cols w.within in (
       λ i j hij hj.

@@ -1,6 +1,7 @@
 // a·b of thirteen to sixteen rows and columns on the diagonal and above it, for the crate above, which has
 // tested sizes and buffers; not for users. The left half of the lower rows is not formed. Two rows run side
-// by side, each total from +0 on and in the order of its definition.
+// by side, each total from +0 on and in the order of its definition. Their totals have names, as those of
+// `row_pairs` have, so that they stay in registers.
 #![tactic(auto)]
 
 ghost use Rattle.std.specs.Prelude.{◌≡◌, ℕ, ◌+◌, ◌-◌, ◌*◌, ◌≤◌, length, get_or};
@@ -39,8 +40,7 @@ fn two_halves(inner: usize, cols: usize, a: &[f32], b: &[f32], r: usize, last: u
     let mut t1 = none;
     let mut s0 = none;
     let mut s1 = none;
-    let mut k: usize = 0;
-    while k < inner {
+    for k in 0..inner {
         let x = a[row + k];
         let y = a[next + k];
         let p = k * cols;
@@ -48,7 +48,6 @@ fn two_halves(inner: usize, cols: usize, a: &[f32], b: &[f32], r: usize, last: u
         s0 = side_by_side::more(s0, y, &*b, p + 8);
         t1 = side_by_side::more(t1, x, &*b, p + last);
         s1 = side_by_side::more(s1, y, &*b, p + last);
-        k += 1;
     }
     Halves {
         u: Eight { f0: t0, f1: t1 },
@@ -80,10 +79,9 @@ pub fn upper_cells(inner: usize, cols: usize, a: &[f32], b: &[f32], c: &mut [f32
     ensures size { length c.new ≡ length c.old }
     ensures past { (k : ℕ) → cols * cols ≤ k → get_or c.new k nan ≡ get_or c.old k nan }
 {
-    let mut r = cols;
-    while 10 <= r {
-        r -= 2;
-        pair_of_halves(inner, cols, &*a, &*b, r, c);
+    let pairs = (cols - 8) / 2;
+    for pair in 0..pairs {
+        pair_of_halves(inner, cols, &*a, &*b, cols - 2 * (pair + 1), c);
     }
-    row_pairs::paired_cells(r, inner, cols, &*a, &*b, c);
+    row_pairs::paired_cells(cols - 2 * pairs, inner, cols, &*a, &*b, c);
 }

@@ -7,7 +7,7 @@ ghost use Rattle.std.specs.Prelude.{◌+◌, ◌*◌, ◌≤◌, ◌<◌};
 ghost use Rattle.numbers.specs.Proposed.{IsEntry, entry_in};
 
 // The whole part of the root of n, which has 48 binary digits at most: a digit at a time, from the
-// highest of 24 down.
+// highest of 24 down. The digit itself is what the loop counts by: it is halved until none is left.
 pub fn by_digits(n: u64) -> u64
     requires { n < 281474976710656 }
     ensures { (result * result ≤ n) × (n < (result + 1) * (result + 1)) }

@@ -1,5 +1,4 @@
 -- One line more: what it adds to the counts, and that each count stays below the position behind it. Assumes nothing.
-use mathlib.Core.Path.{◌≡◌}
 use mathlib.Core.Bool.{Bool, true, false}
 use Prim.Native.Nat.{ℕ, ◌+◌, ◌≤◌, ◌<◌}
 use native.Mathlib.Omega.{arith}
@@ -8,14 +7,6 @@ use Rattle.root_list.specs.declared.line.Line.TheVariants.{Comment, Pair, Bad}
 use Rattle.root_list.specs.declared.tally.Tally.{Tally}
 use Rattle.root_list.specs.Pattern.{agrees_of}
 use Rattle.root_list.specs.Replay.{compare, count_of, Room}
-
--- ---- `count`
-module _ (l : Line) (t : Tally) where
-  pub count_pair : (arg want : ℕ) (b : Bool) → l ≡ Pair arg want → agrees_of arg want ≡ b → compare b t ≡ count_of l t
-  count_pair arg want b e h = rw (e, h)
-
-  pub count_bad : l ≡ Bad → count_of Bad t ≡ count_of l t
-  count_bad e = rw e
 
 -- ---- the loop: no count is above the position
 pub record Under (t : Tally) (at : ℕ) : Type 0 where

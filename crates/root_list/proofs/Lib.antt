@@ -1,3 +1,2 @@
 -- Laws that belong to no one function.
-mod Reading
 pub mod Counting

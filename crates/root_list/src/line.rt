@@ -2,7 +2,7 @@
 ghost use Rattle.std.specs.Prelude.{◌≡◌};
 ghost use Rattle.root_list.specs.Line.{line_of};
 
-// What a line holds.
+// What a line holds: one of three, so neither an Option nor a Result.
 #[derive(Clone, Copy)]
 pub enum Line {
     Comment,
@@ -19,17 +19,17 @@ pub fn read_line(s: &[u8], at: usize, end: usize) -> Line
     if lines::byte_at(s, at) == b'#' {
         return Line::Comment;
     }
-    let lines::Read::Number(arg, p) = lines::hex8(s, at) else {
+    let Some(arg) = lines::hex8(s, at) else {
         return Line::Bad;
     };
-    if lines::byte_at(s, p) != b' ' {
+    if lines::byte_at(s, arg.next) != b' ' {
         return Line::Bad;
     }
-    let lines::Read::Number(root, q) = lines::hex8(s, p + 1) else {
+    let Some(root) = lines::hex8(s, arg.next + 1) else {
         return Line::Bad;
     };
-    if q == end {
-        Line::Pair(arg, root)
+    if root.next == end {
+        Line::Pair(arg.bits, root.bits)
     } else {
         Line::Bad
     }

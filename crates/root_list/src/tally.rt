@@ -23,24 +23,20 @@ impl Tally {
         match l {
             Line::Comment => self,
             Line::Pair(arg, want) => {
+                let compared = self.compared + 1;
                 if agrees(arg, want) {
-                    Tally {
-                        compared: self.compared + 1,
-                        differ: self.differ,
-                        bad: self.bad,
-                    }
+                    Tally { compared, ..self }
                 } else {
                     Tally {
-                        compared: self.compared + 1,
+                        compared,
                         differ: self.differ + 1,
-                        bad: self.bad,
+                        ..self
                     }
                 }
             }
             Line::Bad => Tally {
-                compared: self.compared,
-                differ: self.differ,
                 bad: self.bad + 1,
+                ..self
             },
         }
     }
@@ -51,9 +47,8 @@ impl Tally {
         ensures { result ≡ cut_off self }
     {
         Tally {
-            compared: self.compared,
             differ: self.differ + 1,
-            bad: self.bad,
+            ..self
         }
     }
 }

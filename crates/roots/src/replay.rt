@@ -25,7 +25,9 @@ fn tell(rt: &impl Print, number: u64, l: Line, t: Tally) -> io::Result<()> {
     Ok(())
 }
 
-// The counts over all lines of s, or the error of a write. The last line may lack its newline.
+// The counts over all lines of s, or the error of a write. The last line may lack its newline. The loop
+// goes by positions, since `Replayed` speaks of where each line ends; and it begins with counts that are
+// written out, since a derived Default promises nothing of them.
 pub fn replay(rt: &impl Print, s: &[u8]) -> io::Result<Tally>
     ensures { IfOk result (Replayed s.now) }
 {

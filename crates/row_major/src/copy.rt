@@ -10,12 +10,10 @@ pub fn get_row_copy(rows: usize, cols: usize, m: &[f32], row: usize, row_data: &
 {
     let held = gates::matrix(rows, cols, m.len());
     let buffers = answers::then_buffer(held, 1, cols, row_data.len());
-    let v = answers::then_place(buffers, 0, row, rows);
-    if answers::is_done(v) {
-        let at = row * cols;
-        cores::copy_cells(cols, &m[at..], row_data);
-    }
-    v
+    answers::then_place(buffers, 0, row, rows)?;
+    let at = row * cols;
+    cores::copy_cells(cols, &m[at..], row_data);
+    Ok(())
 }
 
 // A column of the rows by cols matrix m in the first rows cells of column_data.
@@ -30,20 +28,16 @@ pub fn get_column_copy(
 {
     let held = gates::matrix(rows, cols, m.len());
     let buffers = answers::then_buffer(held, 1, rows, column_data.len());
-    let v = answers::then_place(buffers, 1, column, cols);
-    if answers::is_done(v) {
-        cores::copy_column(rows, cols, &*m, column, column_data);
-    }
-    v
+    answers::then_place(buffers, 1, column, cols)?;
+    cores::copy_column(rows, cols, &*m, column, column_data);
+    Ok(())
 }
 
 // The rows by cols matrix m in the first rows·cols cells of target.
 pub fn copy_to(rows: usize, cols: usize, m: &[f32], target: &mut [f32]) -> Answer
     ensures { Copied rows cols m.now target.old result target.new }
 {
-    let v = gates::pair(rows, cols, m.len(), target.len());
-    if answers::is_done(v) {
-        cores::copy_cells(rows * cols, &*m, target);
-    }
-    v
+    gates::pair(rows, cols, m.len(), target.len())?;
+    cores::copy_cells(rows * cols, &*m, target);
+    Ok(())
 }

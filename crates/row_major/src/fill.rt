@@ -10,11 +10,9 @@ use cells::{cores, gates};
 pub fn set_all(rows: usize, cols: usize, m: &mut [f32], x: f32) -> Answer
     ensures { Filled rows cols m.old x result m.new }
 {
-    let v = gates::matrix(rows, cols, m.len());
-    if answers::is_done(v) {
-        cores::fill_cells(rows * cols, m, x);
-    }
-    v
+    gates::matrix(rows, cols, m.len())?;
+    cores::fill_cells(rows * cols, m, x);
+    Ok(())
 }
 
 // +0 in every cell of the rows by cols matrix.
@@ -35,23 +33,19 @@ pub fn set_zero(rows: usize, cols: usize, m: &mut [f32]) -> Answer
 pub fn set_diagonal_to_scalar(n: usize, m: &mut [f32], value: f32) -> Answer
     ensures { DiagonalSet n m.old value result m.new }
 {
-    let v = gates::square(n, m.len());
-    if answers::is_done(v) {
-        cores::fill_diagonal(n, m, value);
-    }
-    v
+    gates::square(n, m.len())?;
+    cores::fill_diagonal(n, m, value);
+    Ok(())
 }
 
 // diagonal on the diagonal of the n by n matrix and off_diagonal in every other cell.
 pub fn make_comatrix(n: usize, m: &mut [f32], diagonal: f32, off_diagonal: f32) -> Answer
     ensures { Comatrix n m.old diagonal off_diagonal result m.new }
 {
-    let v = gates::square(n, m.len());
-    if answers::is_done(v) {
-        cores::fill_cells(n * n, m, off_diagonal);
-        cores::fill_diagonal(n, m, diagonal);
-    }
-    v
+    gates::square(n, m.len())?;
+    cores::fill_cells(n * n, m, off_diagonal);
+    cores::fill_diagonal(n, m, diagonal);
+    Ok(())
 }
 
 // diagonal on the diagonal of the n by n matrix and +0 in every other cell.

@@ -13,12 +13,3 @@ pub use fill::{
 
 // For the crates above, and not for users: the tests and the work that stand in `cells`.
 pub use cells::{cores, gates};
-
-// What get finds.
-#[derive(Clone, Copy)]
-pub enum Read {
-    // The number in the cell.
-    Value(f32),
-    // Why it was not read.
-    Refused(answers::Answer),
-}

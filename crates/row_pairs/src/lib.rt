@@ -19,6 +19,7 @@ pub struct Pair {
 }
 
 // Of rows r and r + 1 the entries 0 to 11, and the four from last on.
+#[tactic(auto, using(grids::proofs::Grids::row_in))]
 fn two_rows(inner: usize, cols: usize, a: &[f32], b: &[f32], r: usize, last: usize) -> Pair
     requires { (12 ≤ cols) × (last + 4 ≤ cols) × (r * inner + inner + inner ≤ length a.now) × (inner * cols ≤ length b.now) }
     ensures first { Chunk (product binary32 inner cols a.now b.now r) 0 result.u.f0
@@ -46,8 +47,7 @@ fn two_rows(inner: usize, cols: usize, a: &[f32], b: &[f32], r: usize, last: usi
     let mut s1 = none;
     let mut s2 = none;
     let mut s3 = none;
-    let mut k: usize = 0;
-    while k < inner {
+    for k in 0..inner {
         let x = a[row + k];
         let y = a[next + k];
         let p = k * cols;
@@ -59,7 +59,6 @@ fn two_rows(inner: usize, cols: usize, a: &[f32], b: &[f32], r: usize, last: usi
         s2 = side_by_side::more(s2, y, &*b, p + 8);
         t3 = side_by_side::more(t3, x, &*b, p + last);
         s3 = side_by_side::more(s3, y, &*b, p + last);
-        k += 1;
     }
     Pair {
         u: Sixteen {
@@ -111,16 +110,15 @@ fn last_row(inner: usize, cols: usize, a: &[f32], b: &[f32], r: usize, c: &mut [
 }
 
 // The matrix, into c: two rows at a time, and a last one by itself.
+#[tactic(auto, using(grids::proofs::Grids::row_in))]
 pub fn paired_cells(rows: usize, inner: usize, cols: usize, a: &[f32], b: &[f32], c: &mut [f32])
     requires { (12 ≤ cols) × (cols ≤ 16) × (rows * inner ≤ length a.now) × (inner * cols ≤ length b.now) × (rows * cols ≤ length c.old) }
     ensures { c.new ≡ grid rows cols (product binary32 inner cols a.now b.now) c.old }
 {
-    let mut r: usize = 0;
-    while r + 2 <= rows {
-        pair_of_rows(inner, cols, &*a, &*b, r, c);
-        r += 2;
+    for q in 0..rows / 2 {
+        pair_of_rows(inner, cols, &*a, &*b, 2 * q, c);
     }
-    if r < rows {
-        last_row(inner, cols, &*a, &*b, r, c);
+    if rows % 2 == 1 {
+        last_row(inner, cols, &*a, &*b, rows - 1, c);
     }
 }

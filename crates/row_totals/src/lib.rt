@@ -10,6 +10,7 @@ ghost use Rattle.entries.specs.Entries.{product_t};
 use side_by_side::Four;
 
 // Entry (r, j).
+#[tactic(auto, using(numbers::proofs::Sums::sum_none, numbers::proofs::Sums::sum_next, entries::proofs::Totals::zero_bits))]
 pub fn row_total(inner: usize, a: &[f32], b: &[f32], r: usize, j: usize) -> f32
     requires { (r * inner + inner ≤ length a.now) × (j * inner + inner ≤ length b.now) }
     ensures { result ≡ product_t binary32 inner a.now b.now r j }
@@ -17,10 +18,8 @@ pub fn row_total(inner: usize, a: &[f32], b: &[f32], r: usize, j: usize) -> f32
     let left = r * inner;
     let right = j * inner;
     let mut total: f32 = 0.0;
-    let mut k: usize = 0;
-    while k < inner {
-        total = total + a[left + k] * b[right + k];
-        k += 1;
+    for k in 0..inner {
+        total += a[left + k] * b[right + k];
     }
     total
 }
@@ -41,10 +40,8 @@ pub fn four_rows(inner: usize, a: &[f32], b: &[f32], r: usize, j: usize) -> Four
         t2: 0.0,
         t3: 0.0,
     };
-    let mut k: usize = 0;
-    while k < inner {
+    for k in 0..inner {
         t = side_by_side::plus(t, side_by_side::times(a[left + k], &*b, right + k, inner));
-        k += 1;
     }
     t
 }

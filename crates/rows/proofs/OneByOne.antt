@@ -6,8 +6,7 @@ use Prim.Native.Nat.{ℕ, zero, suc, ◌<◌, ◌≤◌}
 use native.Mathlib.Omega.{arith}
 use lib.ListN.{length, set}
 use lib.Ieee.{Float}
-use Rattle.answers.specs.declared.Answer.{Answer}
-use Rattle.answers.specs.Answers.{is_done, settled}
+use Rattle.answers.specs.Answers.{is_done, settled, Answer}
 use Rattle.factors.specs.Decomposition.{first_not}
 use Rattle.factors.proofs.First.{first_ext}
 use Rattle.one_state.specs.declared.OneState.{OneState}

@@ -4,8 +4,7 @@ use mathlib.Core.Bool.{Bool, true, false, cond}
 use mathlib.Core.List.{List}
 use Prim.Native.Nat.{ℕ, ◌<◌}
 use lib.ListN.{length, get_or}
-use Rattle.answers.specs.declared.Answer.{Answer}
-use Rattle.answers.specs.Answers.{is_done, settled}
+use Rattle.answers.specs.Answers.{is_done, settled, Answer}
 use Rattle.rows.specs.Rows.{each}
 use Rattle.rows.proofs.Each.{each-length, each_at}
 

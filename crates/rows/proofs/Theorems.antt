@@ -8,9 +8,9 @@ use native.Mathlib.Nat.{not-suc-le-zero}
 use native.Mathlib.Omega.{arith}
 use lib.ListN.{length}
 use lib.Ieee.{Float}
-use Rattle.answers.specs.declared.Answer.{Answer}
-use Rattle.answers.specs.declared.Answer.TheVariants.{Done, Size, Short}
-use Rattle.answers.specs.Answers.{is_done, settled}
+use Rattle.std.proofs.Common.{Ok, Err}
+use Rattle.answers.specs.declared.Refusal.TheVariants.{Size, Short}
+use Rattle.answers.specs.Answers.{is_done, settled, Answer}
 use Rattle.factors.proofs.First.{first_ext}
 use Rattle.one_state.specs.declared.OneState.{OneState}
 use Rattle.one_state.specs.declared.Corrected.{Corrected}
@@ -53,19 +53,19 @@ module _ {row row' : List OneState} {zs : List Float} {c : Corrections} (call : 
   refused_with v r e = call.says ∙ told_refused (length row) (length zs) _ _ (ap is_done e ∙ r) ∙ ap Refused e
 
   -- .. 1 where there are more than twelve records ..
-  pub says_1 : 12 < length row → c ≡ Refused (Size 0)
-  says_1 h = refused_with (Size 0) refl (readings_1 (length row) (length zs) h)
+  pub says_1 : 12 < length row → c ≡ Refused (Err (Size 0))
+  says_1 h = refused_with (Err (Size 0)) refl (readings_1 (length row) (length zs) h)
 
   -- .. and only there ..
-  pub only_1 : c ≡ Refused (Size 0) → 12 < length row
+  pub only_1 : c ≡ Refused (Err (Size 0)) → 12 < length row
   only_1 e = readings_only_1 (length row) (length zs) (sym call_answer_lem ∙ ap call_answer e)
 
   -- .. 2 where there are not, and the readings are fewer ..
-  pub says_2 : length row ≤ 12 → length zs < length row → c ≡ Refused (Short 1)
-  says_2 h l = refused_with (Short 1) refl (readings_2 (length row) (length zs) h l)
+  pub says_2 : length row ≤ 12 → length zs < length row → c ≡ Refused (Err (Short 1))
+  says_2 h l = refused_with (Err (Short 1)) refl (readings_2 (length row) (length zs) h l)
 
   -- .. and only there ..
-  pub only_2 : c ≡ Refused (Short 1) → (length row ≤ 12) × (length zs < length row)
+  pub only_2 : c ≡ Refused (Err (Short 1)) → (length row ≤ 12) × (length zs < length row)
   only_2 e = readings_only_2 (length row) (length zs) (sym call_answer_lem ∙ ap call_answer e)
 
   -- .. and done where neither holds ..
@@ -169,15 +169,15 @@ corrected_unique p q = (cc, cc)
 
 module _ {row row' : List OneState} {v : Answer} (call : PredictedRow row v row') where
   -- It answers 1 where there are more than twelve records ..
-  pub predicted_says_1 : 12 < length row → v ≡ Size 0
+  pub predicted_says_1 : 12 < length row → v ≡ Err (Size 0)
   predicted_says_1 h = call.answer ∙ row_1 (length row) h
 
   -- .. and only there ..
-  pub predicted_only_1 : v ≡ Size 0 → 12 < length row
+  pub predicted_only_1 : v ≡ Err (Size 0) → 12 < length row
   predicted_only_1 e = row_only_1 (length row) (sym call.answer ∙ e)
 
   -- .. and is done where there are not ..
-  pub predicted_says_done : length row ≤ 12 → v ≡ Done
+  pub predicted_says_done : length row ≤ 12 → v ≡ Ok tt
   predicted_says_done h = call.answer ∙ row_done (length row) h
 
   -- .. and only there.
@@ -203,7 +203,7 @@ pub predicted_only_its_own :
 predicted_only_its_own p q dp dq i j hi hj f = cc (feeder-predicted p dp i hi, feeder-predicted q dq j hj)
 
 -- A row of none is taken.
-pub predicted_no_feeders : {row' : List OneState} {v : Answer} → PredictedRow [] v row' → (v ≡ Done) × (row' ≡ [])
+pub predicted_no_feeders : {row' : List OneState} {v : Answer} → PredictedRow [] v row' → (v ≡ Ok tt) × (row' ≡ [])
 predicted_no_feeders p = (predicted_says_done p (omega arith), none_left _ (predicted-length p))
 
 -- Two results of one call are equal.

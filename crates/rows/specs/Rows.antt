@@ -1,9 +1,8 @@
 -- A row of feeders, each a record of one state: what becomes of it where all are predicted, and where all are corrected (R33). Definitions only.
-use Rattle.std.specs.Prelude.{◌≡◌, Bool, cond, List, [], ◌∷◌, ℕ, zero, suc, ◌+◌, leb, ltb, eqb, length, get_or, Float}
+use Rattle.std.specs.Prelude.{◌≡◌, Bool, cond, List, [], ◌∷◌, ℕ, zero, suc, ◌+◌, leb, ltb, eqb, length, get_or, Float, Ok, Err}
 use Rattle.std.specs.Float.{nan}
-use Rattle.answers.specs.declared.Answer.{Answer}
-use Rattle.answers.specs.declared.Answer.TheVariants.{Done, Size}
-use Rattle.answers.specs.Answers.{is_done, first_of, settled}
+use Rattle.answers.specs.declared.Refusal.TheVariants.{Size}
+use Rattle.answers.specs.Answers.{is_done, first_of, settled, Answer}
 use Rattle.answers.specs.Tests.{buffer_test}
 use Rattle.factors.specs.Decomposition.{first_not}
 use Rattle.one_state.specs.declared.OneState.{OneState}
@@ -35,7 +34,7 @@ each g (suc n) (s ∷ row) = g zero s ∷ each (λ i. g (suc i)) n row
 
 -- refusal 1, of size 0: more than twelve records. A row of none is taken.
 abbrev pub row_answer : ℕ → Answer
-row_answer n = cond (leb n 12) Done (Size 0)
+row_answer n = cond (leb n 12) (Ok tt) (Err (Size 0))
 
 -- then refusal 2, of buffer 1: fewer readings than records
 abbrev pub readings_answer : ℕ → ℕ → Answer
@@ -89,8 +88,8 @@ pub record CorrectedRow (row : List OneState) (zs : List Float) (c : Corrections
 -- ---- what each case of the enum says: the call's own answer, how many were accepted, and the index of the first refused, if any
 
 abbrev pub call_answer : Corrections → Answer
-call_answer (All n) = Done
-call_answer (Part n i) = Done
+call_answer (All n) = Ok tt
+call_answer (Part n i) = Ok tt
 call_answer (Refused v) = v
 
 abbrev pub accepted_by : Corrections → ℕ

@@ -8,7 +8,7 @@ ghost use Rattle.answers.specs.Answers.{settled};
 ghost use Rattle.one_state.specs.OneState.{predicted};
 ghost use Rattle.rows.specs.Rows.{row_answer, readings_answer, told_of, none_yet, tallied, Turned};
 
-use answers::Answer;
+use answers::{Answer, Refusal};
 use one_state::{Corrected, OneState};
 
 // What the correction of a row says.
@@ -45,9 +45,9 @@ pub fn row_answer(n: usize) -> Answer
     ensures { result ≡ row_answer n }
 {
     if n <= 12 {
-        Answer::Done
+        Ok(())
     } else {
-        Answer::Size(0)
+        Err(Refusal::Size(0))
     }
 }
 

@@ -1,4 +1,5 @@
-// The inner sums of four neighbouring cells of a row, side by side.
+// The inner sums of four neighbouring cells of a row, side by side: apart from the sum of one, so that the
+// four stay in registers.
 ghost use Rattle.std.specs.Prelude.{◌+◌, ◌*◌, ◌<◌, ◌≤◌, length};
 ghost use Rattle.std.specs.Float.{binary32};
 ghost use Rattle.side_by_side.specs.Chunks.{Chunk};
@@ -19,10 +20,8 @@ pub fn back_four(n: usize, i: usize, c: usize, l: &[f32], inv: &[f32]) -> Four
     }
     let p = i * n + n;
     let mut t = side_by_side::times(-l[p + i], &*inv, p + c, 1);
-    let mut k = i + 2;
-    while k < n {
+    for k in i + 2..n {
         t = side_by_side::more(t, -l[k * n + i], &*inv, k * n + c);
-        k += 1;
     }
     side_by_side::plus(start, t)
 }

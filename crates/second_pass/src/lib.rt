@@ -18,9 +18,7 @@ pub fn solve_back(n: usize, l: &[f32], inv: &mut [f32])
     requires { (n * n ≤ length l.now) × (n * n ≤ length inv.old) }
     ensures { inv.new ≡ grid n n (back binary32 n (cell n l.now) (mirrored (cell n inv.old)) n) inv.old }
 {
-    let mut i = n;
-    while 0 < i {
-        i -= 1;
+    for i in (0..n).rev() {
         rows::back_row(n, i, &*l, inv);
     }
 }

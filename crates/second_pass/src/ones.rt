@@ -16,10 +16,8 @@ pub fn back_one(n: usize, i: usize, c: usize, l: &[f32], inv: &[f32]) -> f32
     }
     let p = i * n + n;
     let mut t = -l[p + i] * inv[p + c];
-    let mut k = i + 2;
-    while k < n {
+    for k in i + 2..n {
         t = t + -l[k * n + i] * inv[k * n + c];
-        k += 1;
     }
     start + t
 }

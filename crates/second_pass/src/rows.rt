@@ -25,17 +25,16 @@ pub fn back_row(n: usize, i: usize, l: &[f32], inv: &mut [f32])
     ensures { inv.new ≡ grid n n (back_row binary32 n (cell n l.now) (cell n inv.old) i) inv.old }
 {
     let d = data_type::recip(l[i * n + i]);
-    let mut c: usize = 0;
-    while c + 4 <= i + 1 {
+    let fours = (i + 1) / 4;
+    for f in 0..fours {
+        let c = f * 4;
         let v = side_by_side::scaled(fours::back_four(n, i, c, &*l, inv), d);
         side_by_side::put(inv, i * n + c, v);
         put_down(inv, c * n + i, n, v);
-        c += 4;
     }
-    while c <= i {
+    for c in fours * 4..i + 1 {
         let v = ones::back_one(n, i, c, &*l, inv) * d;
         inv[i * n + c] = v;
         inv[c * n + i] = v;
-        c += 1;
     }
 }

@@ -1,10 +1,8 @@
 -- What became of the readings of a shift. Definitions only.
-use Rattle.std.specs.Prelude.{◌≡◌, cond, ℕ, ◌+◌, Float}
+use Rattle.std.specs.Prelude.{◌≡◌, cond, None, Some, ℕ, ◌+◌, Float}
 use Rattle.answers.specs.Answers.{is_done}
-use Rattle.wire.specs.declared.Reading.{Reading}
+use Rattle.wire.specs.Wire.{Reading, Outcome}
 use Rattle.feeder.specs.declared.Feeder.{Feeder}
-use Rattle.wire.specs.declared.Outcome.{Outcome}
-use Rattle.wire.specs.declared.Outcome.TheVariants.{NoReading, Answered}
 use Rattle.shift.specs.declared.step.Step.{Step}
 use Rattle.shift.specs.declared.tally.Tally.{Tally}
 use Rattle.shift.specs.Readings.{Brings}
@@ -26,8 +24,8 @@ abbrev pub one_lost : Tally → Tally
 one_lost t = record { taken = t.taken; refused = t.refused; lost = t.lost + 1; before = t.before; after = t.after }
 
 abbrev pub count_of : Outcome → Float → Float → Tally → Tally
-count_of NoReading b a t = one_lost t
-count_of (Answered v) b a t = cond (is_done v) (one_taken t) (one_refused b a t)
+count_of None b a t = one_lost t
+count_of (Some v) b a t = cond (is_done v) (one_taken t) (one_refused b a t)
 
 -- one step more
 abbrev pub counted : Step → Tally → Tally

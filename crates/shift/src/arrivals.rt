@@ -2,7 +2,7 @@
 ghost use Rattle.std.specs.Prelude.{◌<◌};
 ghost use Rattle.shift.specs.Readings.{Brings};
 
-use wire::Reading;
+use wire::{Measured, Reading};
 
 // How many steps the shift has.
 pub const STEPS: usize = 18;
@@ -20,11 +20,18 @@ pub fn arriving(step: usize) -> Reading
     requires { step < 18 }
     ensures { Brings step result }
 {
+    let z = TENSION[step];
     match step {
-        6 => Reading::Lost,
-        11 => Reading::Arrived(TENSION[step], 0.0 / 0.0),
-        13 => Reading::Arrived(0.0 / 0.0, 4.0),
-        15 => Reading::Arrived(TENSION[step], 1.0 / 0.0),
-        _ => Reading::Arrived(TENSION[step], 4.0),
+        6 => None,
+        11 => Some(Measured { z, r: f32::NAN }),
+        13 => Some(Measured {
+            z: f32::NAN,
+            r: 4.0,
+        }),
+        15 => Some(Measured {
+            z,
+            r: f32::INFINITY,
+        }),
+        _ => Some(Measured { z, r: 4.0 }),
     }
 }

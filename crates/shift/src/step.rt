@@ -2,7 +2,7 @@
 ghost use Rattle.shift.specs.Step.{Advanced};
 
 use feeder::{Feeder, correct, predict};
-use wire::{Outcome, Reading};
+use wire::{Measured, Outcome, Reading};
 
 // A step of the shift: the feeder as predicted, what became of the reading, and the feeder after it.
 #[derive(Clone, Copy)]
@@ -19,18 +19,18 @@ pub fn advance(f: Feeder, g: Reading) -> Step
 {
     let predicted = predict(f);
     match g {
-        Reading::Lost => Step {
+        None => Step {
             predicted,
-            outcome: Outcome::NoReading,
+            outcome: None,
             after: predicted,
         },
-        Reading::Arrived(z, r) => {
+        Some(Measured { z, r }) => {
             let c = correct(predicted, z, r);
             let answer = c.answer;
             let after = c.after;
             Step {
                 predicted,
-                outcome: Outcome::Answered(answer),
+                outcome: Some(answer),
                 after,
             }
         }

@@ -3,7 +3,6 @@ ghost use Rattle.std.specs.Prelude.{◌≡◌, ◌<◌};
 ghost use Rattle.shift.specs.Tally.{total, counted};
 
 use crate::step::Step;
-use wire::Outcome;
 
 // What became of the readings, and the tension's estimate before and after the last refusal.
 #[derive(Clone, Copy)]
@@ -24,10 +23,10 @@ impl Tally {
         let mut t = self;
         let outcome = s.outcome;
         match outcome {
-            Outcome::NoReading => {
+            None => {
                 t.lost = t.lost + 1;
             }
-            Outcome::Answered(v) => {
+            Some(v) => {
                 if answers::is_done(v) {
                     t.taken = t.taken + 1;
                 } else {

@@ -6,6 +6,7 @@ ghost use Rattle.std.specs.Prelude.{◌≡◌, ◌+◌, ◌*◌, ◌<◌, ◌≤
 ghost use Rattle.std.specs.Float.{binary32, nan};
 ghost use Rattle.std.specs.Float.Ieee.{add, mul};
 
+// Names and no array: each number's law speaks of it by its name, and the four stay in registers.
 #[derive(Clone, Copy)]
 pub struct Four {
     pub t0: f32,
@@ -143,16 +144,4 @@ pub fn put_four(c: &mut [f32], at: usize, t0: f32, t1: f32, t2: f32, t3: f32)
     ensures { c.new ≡ set (set (set (set c.old at t0) (at + 1) t1) (at + 2) t2) (at + 3) t3 }
 {
     put(c, at, Four { t0, t1, t2, t3 });
-}
-
-// The four, added to four cells of c from at upward.
-pub fn add(c: &mut [f32], at: usize, t: Four)
-    requires { at + 4 ≤ length c.old }
-    ensures { c.new ≡ set (set (set (set c.old at (add binary32 (get_or c.old at nan) t.t0))
-        (at + 1) (add binary32 (get_or c.old (at + 1) nan) t.t1))
-        (at + 2) (add binary32 (get_or c.old (at + 2) nan) t.t2))
-        (at + 3) (add binary32 (get_or c.old (at + 3) nan) t.t3) }
-{
-    let old = read(c, at);
-    put(c, at, plus(old, t));
 }

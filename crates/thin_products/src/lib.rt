@@ -20,6 +20,7 @@ pub struct Three {
 }
 
 // The totals of row r of a with three columns of b, which lie at 0, one and two in its first row.
+#[tactic(auto, using(numbers::proofs::Sums::sum_none, numbers::proofs::Sums::sum_next, entries::proofs::Totals::zero_bits))]
 pub fn three_totals(
     inner: usize,
     a: &[f32],
@@ -38,14 +39,12 @@ pub fn three_totals(
     let mut t0: f32 = 0.0;
     let mut t1: f32 = 0.0;
     let mut t2: f32 = 0.0;
-    let mut k: usize = 0;
-    while k < inner {
+    for k in 0..inner {
         let x = a[row + k];
         let p = k * up;
-        t0 = t0 + x * b[p];
-        t1 = t1 + x * b[p + one];
-        t2 = t2 + x * b[p + two];
-        k += 1;
+        t0 += x * b[p];
+        t1 += x * b[p + one];
+        t2 += x * b[p + two];
     }
     Three { t0, t1, t2 }
 }
@@ -65,6 +64,7 @@ pub fn put_some(c: &mut [f32], at: usize, cols: usize, t: Three)
 }
 
 // The matrix, into c, row after row.
+#[tactic(auto, using(grids::proofs::Grids::row_in))]
 fn thin_rows(
     rows: usize,
     inner: usize,
@@ -80,15 +80,13 @@ fn thin_rows(
 {
     let one = if 2 <= cols { over } else { 0 };
     let two = if 3 <= cols { over + over } else { one };
-    let mut r: usize = 0;
-    while r < rows {
+    for r in 0..rows {
         put_some(
             c,
             r * cols,
             cols,
             three_totals(inner, &*a, &*b, r, up, one, two),
         );
-        r += 1;
     }
 }
 

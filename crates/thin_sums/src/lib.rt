@@ -11,7 +11,8 @@ ghost use Rattle.thin_products.specs.Thin.{number_at};
 
 use thin_products::Three;
 
-// The first cols of the three, each with q's number of the same place, in cells of c from at upward.
+// The first cols of the three, each with q's number of the same place, in cells of c from at upward. As
+// `thin_products::put_some`, where there is no q to read.
 fn put_sums(c: &mut [f32], at: usize, cols: usize, t: Three, q: &[f32])
     requires { (1 ≤ cols) × (cols ≤ 3) × (at + cols ≤ length c.old) × (at + cols ≤ length q.now) }
     ensures { c.new ≡ run at cols (λ j. add binary32 (number_at t j) (get_or q.now (at + j) nan)) c.old }
@@ -26,14 +27,14 @@ fn put_sums(c: &mut [f32], at: usize, cols: usize, t: Three, q: &[f32])
 }
 
 // a·bᵀ + q, into c, row after row.
+#[tactic(auto, using(grids::proofs::Grids::row_in))]
 fn plus_rows(rows: usize, inner: usize, cols: usize, a: &[f32], b: &[f32], q: &[f32], c: &mut [f32])
     requires { (1 ≤ cols) × (cols ≤ 3) × (inner ≤ 16) × (rows * inner ≤ length a.now) × (cols * inner ≤ length b.now) × (rows * cols ≤ length q.now) × (rows * cols ≤ length c.old) }
     ensures { c.new ≡ grid rows cols (λ i j. add binary32 (product_t binary32 inner a.now b.now i j) (cell cols q.now i j)) c.old }
 {
     let one = if 2 <= cols { inner } else { 0 };
     let two = if 3 <= cols { inner + inner } else { one };
-    let mut r: usize = 0;
-    while r < rows {
+    for r in 0..rows {
         put_sums(
             c,
             r * cols,
@@ -41,7 +42,6 @@ fn plus_rows(rows: usize, inner: usize, cols: usize, a: &[f32], b: &[f32], q: &[
             thin_products::three_totals(inner, &*a, &*b, r, 1, one, two),
             &*q,
         );
-        r += 1;
     }
 }
 

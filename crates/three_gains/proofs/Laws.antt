@@ -15,6 +15,7 @@ use Rattle.entries.specs.Entries.{times, product, product_t}
 use Rattle.entries.proofs.Written.{written, times_alike}
 use Rattle.thin_products.specs.declared.Three.{Three}
 use Rattle.thin_products.specs.Thin.{number_at}
+use Rattle.std.specs.Prelude.{Option}
 use Rattle.three_solved.specs.declared.Solved.{Solved}
 use Rattle.three_solved.specs.Solved.{inverse_in, solved_of}
 use Rattle.three_gains.specs.Widened.{widened, gain_at}
@@ -39,7 +40,7 @@ as_transpose f rows n a h t t' fits q =
 
 -- The numbers on and above the diagonal are read out of an array that rows of four were just written to: v is solved from the entries.
 pub solved_from :
-    (f : Format) (e : ℕ → ℕ → Float) (r s z : List Float) {v : Solved} → 12 ≤ length z → s ≡ grid 3 4 e z
+    (f : Format) (e : ℕ → ℕ → Float) (r s z : List Float) {v : Option Solved} → 12 ≤ length z → s ≡ grid 3 4 e z
     → v
     ≡ solved_of f (add f (cell 4 s 0 0) (cell 3 r 0 0)) (add f (cell 4 s 0 1) (cell 3 r 0 1)) (add f (cell 4 s 0 2) (cell 3 r 0 2)) (add f (cell 4 s 1 1) (cell 3 r 1 1)) (add f (cell 4 s 1 2) (cell 3 r 1 2)) (add f (cell 4 s 2 2) (cell 3 r 2 2))
     → v ≡ solved_of f (add f (e 0 0) (cell 3 r 0 0)) (add f (e 0 1) (cell 3 r 0 1)) (add f (e 0 2) (cell 3 r 0 2)) (add f (e 1 1) (cell 3 r 1 1)) (add f (e 1 2) (cell 3 r 1 2)) (add f (e 2 2) (cell 3 r 2 2))

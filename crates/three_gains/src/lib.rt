@@ -36,15 +36,14 @@ fn turn_three(n: usize, h: &[f32], t: &mut [f32])
     requires { (3 * n ≤ length h.now) × (n * 4 ≤ length t.old) }
     ensures { t.new ≡ grid n 4 (widened (cell n h.now)) t.old }
 {
-    let mut k: usize = 0;
-    while k < n {
+    for k in 0..n {
         side_by_side::put(t, k * 4, column(n, &*h, k));
-        k += 1;
     }
 }
 
-// S = hp·t + r, of which the entries on and above the diagonal count: its factor and its inverse.
-fn solve(n: usize, hp: &[f32], t: &[f32], r: &[f32]) -> Solved
+// S = hp·t + r, of which the entries on and above the diagonal count: its factor and its inverse, where every
+// pivot is taken.
+fn solve(n: usize, hp: &[f32], t: &[f32], r: &[f32]) -> Option<Solved>
     requires { (3 * n ≤ length hp.now) × (n * 4 ≤ length t.now) × (9 ≤ length r.now) }
     ensures { result ≡ solved_of binary32
         (add binary32 (product binary32 n 4 hp.now t.now 0 0) (cell 3 r.now 0 0))
@@ -83,8 +82,7 @@ fn put_gains(n: usize, f: &[f32], v: Solved, k: &mut [f32], temp_pht: &mut [f32]
     ensures k { k.new ≡ grid n 3 (times binary32 3 (cell 4 f.now) (inverse_in v)) k.old }
     ensures pht { temp_pht.new ≡ grid n 3 (cell 4 f.now) temp_pht.old }
 {
-    let mut r: usize = 0;
-    while r < n {
+    for r in 0..n {
         let q = r * 4;
         let a = Three {
             t0: f[q],
@@ -93,7 +91,6 @@ fn put_gains(n: usize, f: &[f32], v: Solved, k: &mut [f32], temp_pht: &mut [f32]
         };
         thin_products::put_some(temp_pht, r * 3, 3, a);
         thin_products::put_some(k, r * 3, 3, gain_row(a, v));
-        r += 1;
     }
 }
 
@@ -133,8 +130,7 @@ pub fn gain_three(
     let mut t = [0.0; 64];
     turn_three(n, &*h, &mut t);
     times_matrix::mult_cells(3, n, n, &*h, &*p, temp_hp);
-    let v = solve(n, temp_hp, &t, &*r);
-    if v.taken {
+    if let Some(v) = solve(n, temp_hp, &t, &*r) {
         gains(n, &*p, &t, v, k, temp_pht);
         three_solved::put_factor(s, v);
         three_solved::put_inverse(temp_s_inv, v);

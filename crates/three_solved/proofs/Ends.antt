@@ -1,13 +1,14 @@
 -- The numbers of three by three by their four ends: the first pivot refused, the second, the third, none. The tests say which it is; the roots and the reciprocals are those that were called. Assumes nothing.
-use mathlib.Core.Path.{◌≡◌, refl, ◌∙◌}
+use mathlib.Core.Path.{◌≡◌, refl}
 use mathlib.Core.Bool.{true, false}
+use Rattle.std.specs.Prelude.{Some, None}
 use lib.Ieee.{Float, Format, add, sub, mul, neg}
 use Rattle.numbers.specs.Reciprocal.{one, recip_of}
 use Rattle.numbers.specs.Root.{sqrt_of}
 use Rattle.numbers.specs.Sums.{plus0}
 use Rattle.factors.specs.Pivots.{pivot_taken}
 use Rattle.three_solved.specs.declared.Solved.{Solved}
-use Rattle.three_solved.specs.Solved.{refused_all, solved_of}
+use Rattle.three_solved.specs.Solved.{solved_of}
 
 -- l is the root of the pivot s, which is taken, and d the root's reciprocal
 abbrev pub Rooted : Format → Float → Float → Float → Type 0
@@ -30,7 +31,6 @@ module _ (f : Format) (l10 l20 l21 d0 d1 d2 : Float) where
 
   abbrev with_inverse : Float → Float → Float → Solved
   with_inverse l00 l11 l22 = record {
-    taken = true;
     l00 = l00;
     l10 = l10;
     l11 = l11;
@@ -89,38 +89,38 @@ module _ (f : Format) (s00 s01 s02 s11 s12 s22 : Float) where
   abbrev pub all_of : Solved
   all_of = all r0 q0 r1 q1 r2 q2
 
-  first_core : pivot_taken s00 ≡ false → refused_all ≡ solved_of f s00 s01 s02 s11 s12 s22
+  first_core : pivot_taken s00 ≡ false → None ≡ solved_of f s00 s01 s02 s11 s12 s22
   unfolding solved_of
   first_core t0 = rw t0 refl
 
-  second_core : pivot_taken s00 ≡ true → pivot_taken (p1 q0) ≡ false → refused_all ≡ solved_of f s00 s01 s02 s11 s12 s22
+  second_core : pivot_taken s00 ≡ true → pivot_taken (p1 q0) ≡ false → None ≡ solved_of f s00 s01 s02 s11 s12 s22
   unfolding solved_of
   second_core t0 t1 = rw (t0, t1) refl
 
-  third_core : pivot_taken s00 ≡ true → pivot_taken (p1 q0) ≡ true → pivot_taken (p2 q0 q1) ≡ false → refused_all ≡ solved_of f s00 s01 s02 s11 s12 s22
+  third_core : pivot_taken s00 ≡ true → pivot_taken (p1 q0) ≡ true → pivot_taken (p2 q0 q1) ≡ false → None ≡ solved_of f s00 s01 s02 s11 s12 s22
   unfolding solved_of
   third_core t0 t1 t2 = rw (t0, t1, t2) refl
 
-  all_core : pivot_taken s00 ≡ true → pivot_taken (p1 q0) ≡ true → pivot_taken (p2 q0 q1) ≡ true → all_of ≡ solved_of f s00 s01 s02 s11 s12 s22
+  all_core : pivot_taken s00 ≡ true → pivot_taken (p1 q0) ≡ true → pivot_taken (p2 q0 q1) ≡ true → Some all_of ≡ solved_of f s00 s01 s02 s11 s12 s22
   unfolding solved_of
   all_core t0 t1 t2 = rw (t0, t1, t2) refl
 
   -- ---- and as they are called
 
-  pub first_refused : (v : Solved) → v ≡ refused_all → pivot_taken s00 ≡ false → v ≡ solved_of f s00 s01 s02 s11 s12 s22
-  first_refused v q t0 = q ∙ first_core t0
+  pub first_refused : pivot_taken s00 ≡ false → None ≡ solved_of f s00 s01 s02 s11 s12 s22
+  first_refused t0 = first_core t0
 
-  pub second_refused : (v : Solved) → v ≡ refused_all → (l00 d0 : Float) → Rooted f s00 l00 d0 → pivot_taken (p1 d0) ≡ false → v ≡ solved_of f s00 s01 s02 s11 s12 s22
-  second_refused v q l00 d0 k0 t1 = q ∙ second_core k0.0 (rw (k0.2, k0.1) at t1)
+  pub second_refused : (l00 d0 : Float) → Rooted f s00 l00 d0 → pivot_taken (p1 d0) ≡ false → None ≡ solved_of f s00 s01 s02 s11 s12 s22
+  second_refused l00 d0 k0 t1 = second_core k0.0 (rw (k0.2, k0.1) at t1)
 
   pub third_refused :
-      (v : Solved) → v ≡ refused_all → (l00 d0 l11 d1 : Float) → Rooted f s00 l00 d0 → Rooted f (p1 d0) l11 d1 → pivot_taken (p2 d0 d1) ≡ false
-      → v ≡ solved_of f s00 s01 s02 s11 s12 s22
-  third_refused v q l00 d0 l11 d1 k0 k1 t2 =
-      q ∙ third_core k0.0 (rw (k0.2, k0.1) at k1.0) (rw (k1.2, k1.1, k0.2, k0.1) at t2)
+      (l00 d0 l11 d1 : Float) → Rooted f s00 l00 d0 → Rooted f (p1 d0) l11 d1 → pivot_taken (p2 d0 d1) ≡ false
+      → None ≡ solved_of f s00 s01 s02 s11 s12 s22
+  third_refused l00 d0 l11 d1 k0 k1 t2 =
+      third_core k0.0 (rw (k0.2, k0.1) at k1.0) (rw (k1.2, k1.1, k0.2, k0.1) at t2)
 
   pub all_taken :
       (l00 d0 l11 d1 l22 d2 : Float) → Rooted f s00 l00 d0 → Rooted f (p1 d0) l11 d1 → Rooted f (p2 d0 d1) l22 d2
-      → all l00 d0 l11 d1 l22 d2 ≡ solved_of f s00 s01 s02 s11 s12 s22
+      → Some (all l00 d0 l11 d1 l22 d2) ≡ solved_of f s00 s01 s02 s11 s12 s22
   all_taken l00 d0 l11 d1 l22 d2 k0 k1 k2 =
       rw (k2.2, k2.1, k1.2, k1.1, k0.2, k0.1) (all_core k0.0 (rw (k0.2, k0.1) at k1.0) (rw (k1.2, k1.1, k0.2, k0.1) at k2.0))

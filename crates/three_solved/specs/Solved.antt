@@ -1,5 +1,5 @@
 -- The lower factor of three by three and the inverse from it, as numbers, by the entries on and above the diagonal: the steps of R15 and R16, one by one. Definitions only.
-use Rattle.std.specs.Prelude.{true, false, cond, ℕ, zero, suc, Float}
+use Rattle.std.specs.Prelude.{cond, ℕ, zero, suc, Float, Option, Some, None}
 use Rattle.std.specs.Float.{Format}
 use Rattle.std.specs.Float.Ieee.{add, sub, mul, neg}
 use Rattle.numbers.specs.Reciprocal.{one, recip_of}
@@ -25,24 +25,6 @@ abbrev pub inverse_in : Solved → ℕ → ℕ → Float
 inverse_in v zero = in_row v.i00 v.i01 v.i02
 inverse_in v (suc zero) = in_row v.i01 v.i11 v.i12
 inverse_in v (suc (suc k)) = in_row v.i02 v.i12 v.i22
-
--- where a pivot is refused: no numbers
-unfoldable pub refused_all : Solved
-refused_all = record {
-  taken = false;
-  l00 = plus0;
-  l10 = plus0;
-  l11 = plus0;
-  l20 = plus0;
-  l21 = plus0;
-  l22 = plus0;
-  i00 = plus0;
-  i01 = plus0;
-  i02 = plus0;
-  i11 = plus0;
-  i12 = plus0;
-  i22 = plus0;
-}
 
 -- the matrix whose entries on and above the diagonal are given
 module _ (f : Format) (s00 s01 s02 s11 s12 s22 : Float) where
@@ -113,13 +95,12 @@ module _ (f : Format) (s00 s01 s02 s11 s12 s22 : Float) where
   i00 = mul f (add f (mul f one d0) (add f (mul f (neg l10) i01) (mul f (neg l20) i02))) d0
 
   -- all of it, where every pivot is taken
-  unfoldable pub solved_of : Solved
+  unfoldable pub solved_of : Option Solved
   solved_of =
       cond (pivot_taken s00)
       (cond (pivot_taken p1)
       (cond (pivot_taken p2)
-      (record {
-        taken = true;
+      (Some record {
         l00 = l00;
         l10 = l10;
         l11 = l11;
@@ -133,4 +114,4 @@ module _ (f : Format) (s00 s01 s02 s11 s12 s22 : Float) where
         i12 = i12;
         i22 = i22;
       })
-      refused_all) refused_all) refused_all
+      None) None) None

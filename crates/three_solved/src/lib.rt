@@ -6,12 +6,11 @@
 ghost use Rattle.std.specs.Prelude.{◌≡◌, ◌≤◌, length};
 ghost use Rattle.std.specs.Float.{binary32};
 ghost use Rattle.grids.specs.Grid.{grid};
-ghost use Rattle.three_solved.specs.Solved.{factor_in, inverse_in, refused_all, solved_of};
+ghost use Rattle.three_solved.specs.Solved.{factor_in, inverse_in, solved_of};
 
-// Whether every pivot is taken; and then the factor, and the inverse from it, which is symmetric.
+// The factor, and the inverse from it, which is symmetric.
 #[derive(Clone, Copy)]
 pub struct Solved {
-    pub taken: bool,
     pub l00: f32,
     pub l10: f32,
     pub l11: f32,
@@ -26,33 +25,13 @@ pub struct Solved {
     pub i22: f32,
 }
 
-// What stands for a matrix that has a pivot refused.
-fn none() -> Solved
-    ensures { result ≡ refused_all }
-{
-    Solved {
-        taken: false,
-        l00: 0.0,
-        l10: 0.0,
-        l11: 0.0,
-        l20: 0.0,
-        l21: 0.0,
-        l22: 0.0,
-        i00: 0.0,
-        i01: 0.0,
-        i02: 0.0,
-        i11: 0.0,
-        i12: 0.0,
-        i22: 0.0,
-    }
-}
-
-// The factor and the inverse of the matrix whose entries on and above the diagonal are given.
-pub fn solve_three(s00: f32, s01: f32, s02: f32, s11: f32, s12: f32, s22: f32) -> Solved
+// The factor and the inverse of the matrix whose entries on and above the diagonal are given, where every
+// pivot is taken.
+pub fn solve_three(s00: f32, s01: f32, s02: f32, s11: f32, s12: f32, s22: f32) -> Option<Solved>
     ensures { result ≡ solved_of binary32 s00 s01 s02 s11 s12 s22 }
 {
     if !pivots::taken(s00) {
-        return none();
+        return None;
     }
     let l00 = data_type::square_root(s00);
     let d0 = data_type::recip(l00);
@@ -60,14 +39,14 @@ pub fn solve_three(s00: f32, s01: f32, s02: f32, s11: f32, s12: f32, s22: f32) -
     let l20 = s02 * d0;
     let p1 = s11 - l10 * l10;
     if !pivots::taken(p1) {
-        return none();
+        return None;
     }
     let l11 = data_type::square_root(p1);
     let d1 = data_type::recip(l11);
     let l21 = (s12 - l10 * l20) * d1;
     let p2 = s22 - l20 * l20 - l21 * l21;
     if !pivots::taken(p2) {
-        return none();
+        return None;
     }
     let l22 = data_type::square_root(p2);
     let d2 = data_type::recip(l22);
@@ -83,8 +62,7 @@ pub fn solve_three(s00: f32, s01: f32, s02: f32, s11: f32, s12: f32, s22: f32) -
     let i01 = (a01 + -l21 * i02) * d1;
     let i11 = (a11 + -l21 * i12) * d1;
     let i00 = (a00 + (-l10 * i01 + -l20 * i02)) * d0;
-    Solved {
-        taken: true,
+    Some(Solved {
         l00,
         l10,
         l11,
@@ -97,7 +75,7 @@ pub fn solve_three(s00: f32, s01: f32, s02: f32, s11: f32, s12: f32, s22: f32) -
         i11,
         i12,
         i22,
-    }
+    })
 }
 
 // The factor, into s, three by three.

@@ -1,5 +1,6 @@
 // a·b for b of four to sixteen columns. The last chunk of a row ends at its right edge, so that it may
-// write numbers of the chunk before it once more: the same ones.
+// write numbers of the chunk before it once more: the same ones. A loop over rows is one call of its row's
+// function, and stands once for each of them: one that took the function would be no shorter.
 ghost use Rattle.std.specs.Prelude.{◌≡◌, ◌+◌, ◌*◌, ◌≤◌, ◌<◌, length};
 ghost use Rattle.std.specs.Float.{binary32};
 ghost use Rattle.grids.specs.Grid.{run, grid};
@@ -39,38 +40,35 @@ fn row_of_three(inner: usize, cols: usize, a: &[f32], b: &[f32], r: usize, c: &m
 }
 
 // The matrix of four columns, into c, row after row.
+#[tactic(auto, using(grids::proofs::Grids::grid_none, grids::proofs::Grids::grid_more, grids::proofs::Grids::row_in))]
 pub fn four_columns(rows: usize, inner: usize, cols: usize, a: &[f32], b: &[f32], c: &mut [f32])
     requires { (4 ≤ cols) × (cols ≤ 4) × (rows * inner ≤ length a.now) × (inner * cols ≤ length b.now) × (rows * cols ≤ length c.old) }
     ensures { c.new ≡ grid rows cols (product binary32 inner cols a.now b.now) c.old }
 {
-    let mut r: usize = 0;
-    while r < rows {
+    for r in 0..rows {
         row_of_one(inner, cols, &*a, &*b, r, c);
-        r += 1;
     }
 }
 
 // The matrix of four to eight columns, into c, row after row.
+#[tactic(auto, using(grids::proofs::Grids::grid_none, grids::proofs::Grids::grid_more, grids::proofs::Grids::row_in))]
 fn rows_of_two(rows: usize, inner: usize, cols: usize, a: &[f32], b: &[f32], c: &mut [f32])
     requires { (4 ≤ cols) × (cols ≤ 8) × (rows * inner ≤ length a.now) × (inner * cols ≤ length b.now) × (rows * cols ≤ length c.old) }
     ensures { c.new ≡ grid rows cols (product binary32 inner cols a.now b.now) c.old }
 {
-    let mut r: usize = 0;
-    while r < rows {
+    for r in 0..rows {
         row_of_two(inner, cols, &*a, &*b, r, c);
-        r += 1;
     }
 }
 
 // The matrix of eight to twelve columns, into c, row after row.
+#[tactic(auto, using(grids::proofs::Grids::grid_none, grids::proofs::Grids::grid_more, grids::proofs::Grids::row_in))]
 fn rows_of_three(rows: usize, inner: usize, cols: usize, a: &[f32], b: &[f32], c: &mut [f32])
     requires { (8 ≤ cols) × (cols ≤ 12) × (rows * inner ≤ length a.now) × (inner * cols ≤ length b.now) × (rows * cols ≤ length c.old) }
     ensures { c.new ≡ grid rows cols (product binary32 inner cols a.now b.now) c.old }
 {
-    let mut r: usize = 0;
-    while r < rows {
+    for r in 0..rows {
         row_of_three(inner, cols, &*a, &*b, r, c);
-        r += 1;
     }
 }
 

@@ -3,10 +3,8 @@
 // side.
 #![tactic(auto)]
 
-mod added;
-mod scaled;
+mod each;
 mod stored;
 
-pub use added::transb_add_cells;
-pub use scaled::transb_scale_cells;
+pub use each::{transb_add_cells, transb_scale_cells};
 pub use stored::transb_cells;

@@ -2,7 +2,7 @@
 // buffers; not for users. It is stored, or added to c. Each sum starts with its first product.
 #![tactic(auto)]
 
-ghost use Rattle.std.specs.Prelude.{◌≡◌, ◌+◌, ◌*◌, ◌≤◌, length, get_or};
+ghost use Rattle.std.specs.Prelude.{◌≡◌, ◌+◌, ◌*◌, ◌≤◌, length, get_or, Float};
 ghost use Rattle.std.specs.Float.{binary32, nan};
 ghost use Rattle.std.specs.Float.Ieee.{add};
 ghost use Rattle.grids.specs.Grid.{run};
@@ -11,16 +11,15 @@ ghost use Rattle.entries.specs.Entries.{row_product};
 use side_by_side::Four;
 
 // Entry r.
+#[tactic(auto, using(numbers::proofs::Sums::first_only, numbers::proofs::Sums::first_next))]
 fn total_from_first(inner: usize, a: &[f32], x: &[f32], r: usize) -> f32
     requires { (1 ≤ inner) × (r * inner + inner ≤ length a.now) × (inner ≤ length x.now) }
     ensures { result ≡ row_product binary32 inner a.now x.now r }
 {
     let row = r * inner;
     let mut total = a[row] * x[0];
-    let mut k: usize = 1;
-    while k < inner {
-        total = total + a[row + k] * x[k];
-        k += 1;
+    for k in 1..inner {
+        total += a[row + k] * x[k];
     }
     total
 }
@@ -35,31 +34,43 @@ fn four_from_first(inner: usize, a: &[f32], x: &[f32], r: usize) -> Four
 {
     let row = r * inner;
     let mut t = side_by_side::times(x[0], &*a, row, inner);
-    let mut k: usize = 1;
-    while k < inner {
+    for k in 1..inner {
         t = side_by_side::plus(t, side_by_side::times(x[k], &*a, row + k, inner));
-        k += 1;
     }
     t
 }
 
-// The rows numbers, into c: four of a's rows at a time, then one by one.
-fn each_row(rows: usize, inner: usize, a: &[f32], x: &[f32], c: &mut [f32])
-    requires { (1 ≤ inner) × (rows * inner ≤ length a.now) × (inner ≤ length x.now) × (rows ≤ length c.old) }
-    ensures { c.new ≡ run 0 rows (row_product binary32 inner a.now x.now) c.old }
+// What op makes of each of the rows numbers of c and of the entry, in its place: four of a's rows at a
+// time, then one by one.
+#[tactic(auto, using(grids::proofs::Grids::row_in))]
+fn each_row<F: Fn(f32, f32) -> f32>(
+    rows: usize,
+    inner: usize,
+    a: &[f32],
+    x: &[f32],
+    c: &mut [f32],
+    op: F,
+)
+    requires lent { (1 ≤ inner) × (rows * inner ≤ length a.now) × (inner ≤ length x.now) × (rows ≤ length c.old) }
+    requires callable { F.IsAlwaysCallable op }
+    ensures { (g : Float → Float → Float) → ((x y r : Float) → F.post op x y r → r ≡ g x y) → c.new ≡ run 0 rows (λ r. g (get_or c.old r nan) (row_product binary32 inner a.now x.now r)) c.old }
 {
-    let mut r: usize = 0;
-    while r + 4 <= rows {
-        side_by_side::put(c, r, four_from_first(inner, &*a, &*x, r));
-        r += 4;
+    let fours = rows / 4;
+    for q in 0..fours {
+        let r = 4 * q;
+        let t = four_from_first(inner, &*a, &*x, r);
+        c[r] = op(c[r], t.t0);
+        c[r + 1] = op(c[r + 1], t.t1);
+        c[r + 2] = op(c[r + 2], t.t2);
+        c[r + 3] = op(c[r + 3], t.t3);
     }
-    while r < rows {
-        c[r] = total_from_first(inner, &*a, &*x, r);
-        r += 1;
+    for r in 4 * fours..rows {
+        c[r] = op(c[r], total_from_first(inner, &*a, &*x, r));
     }
 }
 
 // The same for three products a sum, which are common: no sum needs a loop.
+#[tactic(auto, using(grids::proofs::Grids::run_none))]
 fn by_three(rows: usize, a: &[f32], x: &[f32], c: &mut [f32])
     requires { (rows * 3 ≤ length a.now) × (3 ≤ length x.now) × (rows ≤ length c.old) }
     ensures { c.new ≡ run 0 rows (row_product binary32 3 a.now x.now) c.old }
@@ -67,15 +78,14 @@ fn by_three(rows: usize, a: &[f32], x: &[f32], c: &mut [f32])
     let x0 = x[0];
     let x1 = x[1];
     let x2 = x[2];
-    let mut r: usize = 0;
-    while r < rows {
+    for r in 0..rows {
         let p = r * 3;
         c[r] = a[p] * x0 + a[p + 1] * x1 + a[p + 2] * x2;
-        r += 1;
     }
 }
 
 // And for six.
+#[tactic(auto, using(grids::proofs::Grids::run_none))]
 fn by_six(rows: usize, a: &[f32], x: &[f32], c: &mut [f32])
     requires { (rows * 6 ≤ length a.now) × (6 ≤ length x.now) × (rows ≤ length c.old) }
     ensures { c.new ≡ run 0 rows (row_product binary32 6 a.now x.now) c.old }
@@ -86,8 +96,7 @@ fn by_six(rows: usize, a: &[f32], x: &[f32], c: &mut [f32])
     let x3 = x[3];
     let x4 = x[4];
     let x5 = x[5];
-    let mut r: usize = 0;
-    while r < rows {
+    for r in 0..rows {
         let p = r * 6;
         c[r] = a[p] * x0
             + a[p + 1] * x1
@@ -95,7 +104,6 @@ fn by_six(rows: usize, a: &[f32], x: &[f32], c: &mut [f32])
             + a[p + 3] * x3
             + a[p + 4] * x4
             + a[p + 5] * x5;
-        r += 1;
     }
 }
 
@@ -109,7 +117,7 @@ pub fn rowvector_cells(rows: usize, inner: usize, a: &[f32], x: &[f32], c: &mut 
     } else if inner == 6 {
         by_six(rows, &*a, &*x, c);
     } else {
-        each_row(rows, inner, &*a, &*x, c);
+        each_row(rows, inner, &*a, &*x, c, |_, t| t);
     }
 }
 
@@ -118,13 +126,5 @@ pub fn rowvector_add_cells(rows: usize, inner: usize, a: &[f32], x: &[f32], c: &
     requires { (1 ≤ inner) × (rows * inner ≤ length a.now) × (inner ≤ length x.now) × (rows ≤ length c.old) }
     ensures { c.new ≡ run 0 rows (λ r. add binary32 (get_or c.old r nan) (row_product binary32 inner a.now x.now r)) c.old }
 {
-    let mut r: usize = 0;
-    while r + 4 <= rows {
-        side_by_side::add(c, r, four_from_first(inner, &*a, &*x, r));
-        r += 4;
-    }
-    while r < rows {
-        c[r] = c[r] + total_from_first(inner, &*a, &*x, r);
-        r += 1;
-    }
+    each_row(rows, inner, a, x, c, |y, t| y + t);
 }

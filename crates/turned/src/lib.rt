@@ -8,27 +8,25 @@ ghost use Rattle.grids.specs.Grid.{cell, run, grid};
 ghost use Rattle.entries.specs.Entries.{product_t};
 
 // Column k of b, of cols by inner, as row k of t.
+#[tactic(auto, using(grids::proofs::Grids::run_none, grids::proofs::Grids::run_more, grids::proofs::Grids::row_in))]
 fn turn_column(inner: usize, cols: usize, b: &[f32], k: usize, t: &mut [f32])
     requires { (k < inner) × (cols * inner ≤ length b.now) × (k * cols + cols ≤ length t.old) }
     ensures { t.new ≡ run (k * cols) cols (λ j. cell inner b.now j k) t.old }
 {
     let at = k * cols;
-    let mut j: usize = 0;
-    while j < cols {
+    for j in 0..cols {
         t[at + j] = b[j * inner + k];
-        j += 1;
     }
 }
 
 // bᵀ, into t.
+#[tactic(auto, using(grids::proofs::Grids::grid_none, grids::proofs::Grids::grid_more, grids::proofs::Grids::row_in))]
 pub fn turn(inner: usize, cols: usize, b: &[f32], t: &mut [f32])
     requires { (cols * inner ≤ length b.now) × (inner * cols ≤ length t.old) }
     ensures { t.new ≡ grid inner cols (λ k j. cell inner b.now j k) t.old }
 {
-    let mut k: usize = 0;
-    while k < inner {
+    for k in 0..inner {
         turn_column(inner, cols, &*b, k, t);
-        k += 1;
     }
 }
 

@@ -4,12 +4,11 @@
 
 ghost use Rattle.std.specs.Prelude.{[], ◌*◌, ◌≤◌, length};
 ghost use Rattle.std.specs.Float.{binary32};
-ghost use Rattle.answers.specs.declared.Answer.TheVariants.{Done};
 ghost use Rattle.entries.specs.Entries.{Transposed};
 ghost use Rattle.filters.specs.Lent.{buffers, Held};
 ghost use Rattle.filters.specs.Corrected.{Renewed};
 
-use answers::Answer;
+use answers::{Answer, Refusal};
 
 mod gain;
 
@@ -45,14 +44,14 @@ pub fn update_turned(
     t: &mut [f32],
 ) -> Answer
     requires { (n * m ≤ length t.old) × Held n m (buffers x.old p.old h.now [] r.now y.now s.old k.old temp_s_inv.old temp_hp.old temp_pht.old temp_khp.old) }
-    ensures { Renewed binary32 n m Done result
+    ensures { Renewed binary32 n m (Ok tt) result
         (buffers x.old p.old h.now [] r.now y.now s.old k.old temp_s_inv.old temp_hp.old temp_pht.old temp_khp.old)
         (buffers x.new p.new h.now [] r.now y.now s.new k.new temp_s_inv.new temp_hp.new temp_pht.new temp_khp.new) }
 {
     turn_wide(n, m, &*h, t);
     let i = residuals::residual_cells(n, m, p, &*h, t, &*r, s, temp_hp);
     if i < m {
-        return Answer::Pivot(i);
+        return Err(Refusal::Pivot(i));
     }
     gain_turned(n, m, p, &*h, t, s, k, temp_s_inv, temp_pht);
     renewals::renew_cells(n, m, x, p, &*y, k, temp_hp, temp_khp)

@@ -1,5 +1,4 @@
--- Sums of four entries of a·x side by side, from their first products on, the places of aᵀ that they are read at, and a row that is written in four times four cells.
--- Assumes nothing.
+-- Sums of four entries of a·x side by side, from their first products on, and a row that is written in four times four cells. Assumes nothing.
 use mathlib.Core.Path.{◌≡◌, refl, sym, ap, ◌∙◌}
 use mathlib.Core.List.{List}
 use Prim.Native.Nat.{ℕ, ◌+◌, ◌-◌, ◌*◌, ◌<◌, ◌≤◌}
@@ -11,7 +10,6 @@ use Rattle.numbers.specs.Sums.{products}
 use Rattle.side_by_side.specs.declared.Four.{Four}
 use Rattle.side_by_side.specs.Chunks.{Chunk}
 use Rattle.grids.specs.Grid.{cell, run}
-use Rattle.grids.proofs.Grids.{row_in}
 use Rattle.grids.proofs.Turns.{put4}
 use Rattle.entries.specs.Entries.{times_x, numbers}
 use Rattle.row_pairs.proofs.Pairs as pairs
@@ -61,21 +59,6 @@ pub all_totals :
     (f : Format) (inner cols : ℕ) (t x : List Float) (j : ℕ) (v : Four) {k : ℕ} → Totals f inner cols t x j v k → inner ≤ k
     → Chunk (times_x f inner (λ j k. cell cols t k j) (numbers x)) j v
 all_totals f inner cols t x j v h le = (all_added_on h.first le, all_added_on h.second le, all_added_on h.third le, all_added_on h.fourth le)
-
--- ---- places, each law by itself, since a walk of eight calls hands `omega` far more than it needs
-
--- four numbers of t's first row from j on
-pub in_first : {inner cols : ℕ} (j : ℕ) {len : ℕ} → 1 ≤ inner → j + 4 ≤ cols → inner * cols ≤ len → j + 3 * 1 < len
-in_first {inner} {cols} j some fits h = omega (arith, row_in inner cols 0 some)
-
--- number k of n, in a list of len
-pub record InNumbers (k len : ℕ) : Type 0 where
-  pub next : k + 1 < 18446744073709551616
-  pub here : k < len
-  pub byte : k * 4 < 18446744073709551616
-
-pub in_numbers : {k n len : ℕ} → k < n → n ≤ len → len * 4 < 18446744073709551616 → InNumbers k len
-in_numbers lt h room = record { next = omega arith; here = omega arith; byte = omega arith }
 
 -- ---- one row
 

@@ -11,6 +11,7 @@ ghost use Rattle.entries.specs.Entries.{times_x, numbers};
 use side_by_side::Sixteen;
 
 // Entries 0 to 11, and the four from last on; t is aᵀ, of inner by cols.
+#[tactic(auto, using(grids::proofs::Grids::row_in))]
 fn first_chunks(inner: usize, cols: usize, t: &[f32], x: &[f32], last: usize) -> Sixteen
     requires { (1 ≤ inner) × (12 ≤ cols) × (last + 4 ≤ cols) × (inner * cols ≤ length t.now) × (inner ≤ length x.now) }
     ensures { Chunk (times_x binary32 inner (λ j k. cell cols t.now k j) (numbers x.now)) 0 result.f0
@@ -23,15 +24,13 @@ fn first_chunks(inner: usize, cols: usize, t: &[f32], x: &[f32], last: usize) ->
     let mut t1 = side_by_side::times(first, &*t, 4, 1);
     let mut t2 = side_by_side::times(first, &*t, 8, 1);
     let mut t3 = side_by_side::times(first, &*t, last, 1);
-    let mut k: usize = 1;
-    while k < inner {
+    for k in 1..inner {
         let v = x[k];
         let p = k * cols;
         t0 = side_by_side::more(t0, v, &*t, p);
         t1 = side_by_side::more(t1, v, &*t, p + 4);
         t2 = side_by_side::more(t2, v, &*t, p + 8);
         t3 = side_by_side::more(t3, v, &*t, p + last);
-        k += 1;
     }
     Sixteen {
         f0: t0,

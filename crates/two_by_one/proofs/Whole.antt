@@ -6,7 +6,8 @@ use Prim.Native.Nat.{ℕ, ◌≤◌}
 use lib.ListN.{length, set}
 use lib.Ieee.{Float, binary32, add, mul}
 use lib.Ieee.Scale.{finite}
-use Rattle.answers.specs.declared.Answer.TheVariants.{Done, Pivot, NotFinite}
+use Rattle.std.proofs.Common.{Ok, Err}
+use Rattle.answers.specs.declared.Refusal.TheVariants.{Pivot, NotFinite}
 use Rattle.numbers.specs.Reciprocal.{recip_of}
 use Rattle.numbers.specs.Root.{sqrt_of}
 use Rattle.numbers.specs.Sums.{plus0, sum_from}
@@ -100,7 +101,7 @@ module _ {b : Buffers} {z : List Float} {o : Operands} {s : Seen} (begun : Begun
       → e.HP ≡ set (set b.HP 0 (started s.u0)) 1 (started s.u1)
       → e.S ≡ set b.S 0 (mul binary32 s.s plus0)
       → e.s_inv ≡ b.s_inv → e.PHt ≡ b.PHt → e.K ≡ b.K → e.x ≡ b.x → e.KHP ≡ b.KHP → e.P ≡ b.P
-      → Renewed binary32 2 1 Done (Pivot 0) b e
+      → Renewed binary32 2 1 (Ok tt) (Err (Pivot 0)) b e
   refused e t vg vs vi vt vk vx vh vp =
       refused_by_one binary32 2 b e (ap pivot_taken (sym s_is) ∙ t) (hp_left b.HP e.HP vg) (vs ∙ ap (λ (a : Float). set b.S 0 (mul binary32 a plus0)) s_is) vi vt vk vx vh vp
 
@@ -161,16 +162,16 @@ module _ {b : Buffers} {z : List Float} {o : Operands} {s : Seen} (begun : Begun
         pub passed :
             q ≡ true → e.x ≡ set (set b.x 0 w.w0) 1 w.w1
             → e.P ≡ set (set (set (set b.P 0 w.n.t0) 1 w.n.t1) 2 w.n.t2) 3 w.n.t3
-            → Renewed binary32 2 1 Done Done b e
+            → Renewed binary32 2 1 (Ok tt) (Ok tt) b e
         unfolding run grid lent_in sum_from
         passed t vx vp =
-            renewed_by_one binary32 2 b e z d Done l y holds (y_left y b.y stored) (ap pivot_taken (sym s_is) ∙ ended.taken) (ended.root ∙ ap (sqrt_of binary32) s_is) ended.recip
+            renewed_by_one binary32 2 b e z d (Ok tt) l y holds (y_left y b.y stored) (ap pivot_taken (sym s_is) ∙ ended.taken) (ended.root ∙ ap (sqrt_of binary32) s_is) ended.recip
             (two_passed X N q (fine says) t) (hp_left b.HP e.HP vg) vs vi pht_left k_left khp_left
             (vx ∙ ap (λ (v : Renewal). set (set b.x 0 v.w0) 1 v.w1) w_is)
             (vp ∙ ap (λ (v : Renewal). set (set (set (set b.P 0 v.n.t0) 1 v.n.t1) 2 v.n.t2) 3 v.n.t3) w_is)
 
         -- it is not, and they stay
-        pub failed : q ≡ false → e.x ≡ b.x → e.P ≡ b.P → Renewed binary32 2 1 Done NotFinite b e
+        pub failed : q ≡ false → e.x ≡ b.x → e.P ≡ b.P → Renewed binary32 2 1 (Ok tt) (Err NotFinite) b e
         failed t vx vp =
-            renewed_by_one binary32 2 b e z d NotFinite l y holds (y_left y b.y stored) (ap pivot_taken (sym s_is) ∙ ended.taken) (ended.root ∙ ap (sqrt_of binary32) s_is) ended.recip
+            renewed_by_one binary32 2 b e z d (Err NotFinite) l y holds (y_left y b.y stored) (ap pivot_taken (sym s_is) ∙ ended.taken) (ended.root ∙ ap (sqrt_of binary32) s_is) ended.recip
             (two_failed X N q (fine says) t) (hp_left b.HP e.HP vg) vs vi pht_left k_left khp_left vx vp

@@ -6,14 +6,13 @@
 
 ghost use Rattle.std.specs.Prelude.{◌≡◌, [], ◌≤◌, length};
 ghost use Rattle.std.specs.Float.{binary32};
-ghost use Rattle.answers.specs.declared.Answer.TheVariants.{Done};
 ghost use Rattle.grids.specs.Grid.{cell, run};
 ghost use Rattle.entries.specs.Entries.{numbers};
 ghost use Rattle.filters.specs.Correction.{innovation_of};
 ghost use Rattle.filters.specs.Lent.{buffers, Held};
 ghost use Rattle.filters.specs.Corrected.{Renewed};
 
-use answers::Answer;
+use answers::{Answer, Refusal};
 
 // Two states, one observation: done, the pivot is refused, or 9 where the new x or P is not all finite.
 pub fn correct_two(
@@ -32,7 +31,7 @@ pub fn correct_two(
 ) -> Answer
     requires { Held 2 1 (buffers x.old p.old h.now [] r.now y.old s.old k.old temp_s_inv.old temp_hp.old temp_pht.old temp_khp.old) × (1 ≤ length z.now) }
     ensures y { y.new ≡ run 0 1 (innovation_of binary32 2 (cell 2 h.now) (numbers x.old) (numbers z.now)) y.old }
-    ensures renewed { Renewed binary32 2 1 Done result
+    ensures renewed { Renewed binary32 2 1 (Ok tt) result
         (buffers x.old p.old h.now [] r.now y.new s.old k.old temp_s_inv.old temp_hp.old temp_pht.old temp_khp.old)
         (buffers x.new p.new h.now [] r.now y.new s.new k.new temp_s_inv.new temp_hp.new temp_pht.new temp_khp.new) }
 {
@@ -42,7 +41,7 @@ pub fn correct_two(
     side_by_side::put_two(temp_hp, 0, 0.0 + seen.u0, 0.0 + seen.u1);
     if !pivots::taken(seen.s) {
         s[0] = seen.s * 0.0;
-        return Answer::Pivot(0);
+        return Err(Refusal::Pivot(0));
     }
     let l = data_type::square_root(seen.s);
     let d = data_type::recip(l);
@@ -56,7 +55,7 @@ pub fn correct_two(
     if two_stages::is_fine(v.w0, v.w1, v.n) {
         side_by_side::put_two(x, 0, v.w0, v.w1);
         side_by_side::put(p, 0, v.n);
-        return Answer::Done;
+        return Ok(());
     }
-    Answer::NotFinite
+    Err(Refusal::NotFinite)
 }

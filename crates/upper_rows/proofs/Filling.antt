@@ -4,17 +4,15 @@ use mathlib.Core.List.{List}
 use Prim.Native.Nat.{ℕ, ◌+◌, ◌-◌, ◌*◌, ◌<◌, ◌≤◌}
 use native.Mathlib.Decide.{dec_lt}
 use native.Mathlib.Omega.{arith}
-use lib.ListN.{length, get_or, set, length-set}
+use lib.ListN.{length, get_or, set}
 use lib.Ieee.{Float, Format, nan, mul}
 use Rattle.grids.specs.Grid.{cell, run}
 use Rattle.grids.proofs.Grids.{length_run, run_before, run_past}
 use Rattle.grids.proofs.Loops.{begun, all_written}
 use Rattle.grids.proofs.Turns.{put4, four_scaled}
-use Rattle.upper_rows.specs.Rows.{left, RowAnew}
+use Rattle.upper_rows.specs.Rows.{left}
 use Rattle.upper_rows.proofs.Differences.{left_same}
 use Rattle.upper_rows.proofs.Parts.{part_others, part_past, part_cell}
-
--- ---- right of the diagonal
 
 -- row i is filled from column c on, as far as it lies right of the diagonal; what lies left of c, the other rows and what lies past the matrix are as they were
 pub record Filling (f : Format) (n i : ℕ) (q : Float) (t₀ t : List Float) (c : ℕ) : Type 0 where
@@ -26,17 +24,6 @@ pub record Filling (f : Format) (n i : ℕ) (q : Float) (t₀ t : List Float) (c
   pub past : (k : ℕ) → n * n ≤ k → get_or t k nan ≡ get_or t₀ k nan
 
 module _ {f : Format} {n i : ℕ} {q : Float} {t₀ : List Float} where
-  -- before the first turn nothing is filled
-  pub none_filled : Filling f n i q t₀ t₀ n
-  none_filled = record {
-    within = omega arith;
-    size = refl;
-    right = λ c' le lt h. absurd (omega arith);
-    ahead = λ c' h. refl;
-    others = λ r c' hr hc off. refl;
-    past = λ k h. refl;
-  }
-
   -- what is left of an entry that is still to be filled is as it was
   still : {t : List Float} {c : ℕ} → Filling f n i q t₀ t c → i < n → (c' : ℕ) → c' < c → left f (cell n t) i c' ≡ left f (cell n t₀) i c'
   still {t} {c} w hi c' h =
@@ -83,7 +70,7 @@ module _ {f : Format} {n i : ℕ} {q : Float} {t₀ : List Float} where
       more_filled 4 w hi fits e (all_written (four_scaled f h q {at = i * n + c} {n = 4} begun (omega arith) (omega arith) v (u.0 ∙ ap (left f (cell n t) i) s, u.1, u.2, u.3) a) (omega arith))
 
   -- a turn of one
-  one-filled :
+  pub one-filled :
       {t : List Float} {c d : ℕ} {u : Float} → Filling f n i q t₀ t d → i < n → n * n ≤ length t → d ≡ c + 1 → u ≡ left f (cell n t) i c
       → Filling f n i q t₀ (set t (i * n + c) (mul f u q)) c
   unfolding run
@@ -91,34 +78,3 @@ module _ {f : Format} {n i : ℕ} {q : Float} {t₀ : List Float} where
       let s : c + 0 ≡ c = omega arith in
       let p : i * n + c + 0 ≡ i * n + c = omega arith in
       more_filled 1 w hi fits e (rw (p, s, a) refl)
-
-  -- after the last turn the row is filled right of the diagonal
-  pub all_filled : {t : List Float} {c : ℕ} → Filling f n i q t₀ t c → c ≤ i + 1 → RowAnew n i (i + 1) (λ c. mul f (left f (cell n t₀) i c) q) t₀ t
-  all_filled w h = record {
-    size = w.size;
-    row = λ c' from lt. w.right c' (omega arith) (omega arith) lt;
-    others = w.others;
-    past = w.past;
-  }
-
--- ---- the same, where another loop stopped
-
--- From column c₀ on: a loop that goes on filling where another stopped knows the buffer as it was then, t₀, and says for any z that what the first filled over z is filled on.
-pub record Onward (f : Format) (n i : ℕ) (q : Float) (t₀ : List Float) (c₀ : ℕ) (t : List Float) (c : ℕ) : Type 0 where
-  pub within : c ≤ c₀
-  pub size : length t ≡ length t₀
-  pub goes_on : (z : List Float) → Filling f n i q z t₀ c₀ → Filling f n i q z t c
-
--- where the second loop begins
-pub onward : {f : Format} {n i : ℕ} {q : Float} {t₀ : List Float} {c₀ : ℕ} → Onward f n i q t₀ c₀ t₀ c₀
-onward = record { within = omega arith; size = refl; goes_on = λ z w. w }
-
--- a turn of one
-pub one_onward :
-    {f : Format} {n i : ℕ} {q : Float} {t₀ t : List Float} {c₀ c d : ℕ} {u : Float} → Onward f n i q t₀ c₀ t d → i < n → n * n ≤ length t → d ≡ c + 1 → u ≡ left f (cell n t) i c
-    → Onward f n i q t₀ c₀ (set t (i * n + c) (mul f u q)) c
-one_onward {f} {n} {i} {q} {t₀} {t} {c₀} {c} {d} {u} o hi fits e a = record {
-  within = let le = o.within in omega arith;
-  size = length-set t (i * n + c) (mul f u q) ∙ o.size;
-  goes_on = λ z w. one-filled (o.goes_on z w) hi fits e a;
-}

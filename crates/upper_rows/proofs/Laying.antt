@@ -95,9 +95,10 @@ module _ (n : ℕ) (l : List Float) where
       elim (dec_lt r c) [ yes h ↦ over_more j (cell n l) r c h | no h ↦ under_more j (cell n l) r c (omega arith) ])
 
   -- after the last row the upper triangle lies below the diagonal
-  pub turned_end : grid n n (turned n (cell n l)) l ≡ grid n n (lower (λ r c. cell n l c r)) l
-  turned_end =
-      grid_ext n n _ _ l (λ r c hr hc.
+  pub turned_end : (z : List Float) (j : ℕ) → j ≡ n → z ≡ grid n n (turned j (cell n l)) l → z ≡ grid n n (lower (λ r c. cell n l c r)) l
+  turned_end z j e q =
+      (rw e at q)
+      ∙ grid_ext n n _ _ l (λ r c hr hc.
       elim (dec_lt r c) [
         | yes h ↦ over_done n (cell n l) r c h hr ∙ sym (simp (lt-ltb r c h))
         | no h ↦ under_done n (cell n l) r c (omega arith) hc ∙ sym (simp (le-ltb r c (omega arith)))

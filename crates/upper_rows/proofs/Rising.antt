@@ -1,5 +1,5 @@
 -- Row after row of the buffer until a pivot is refused: what holds before each turn, that a turn keeps it, and what it says where the rows end. Assumes nothing.
-use mathlib.Core.Path.{◌≡◌, refl, sym, ap, subst, ◌∙◌}
+use mathlib.Core.Path.{◌≡◌, sym, ap, subst, ◌∙◌}
 use mathlib.Core.Bool.{Bool, true, false, cond}
 use mathlib.Core.List.{List}
 use Prim.Native.Nat.{ℕ, zero, suc, ◌+◌, ◌*◌, ◌<◌, ◌≤◌}
@@ -18,7 +18,7 @@ use Rattle.factors.specs.Decomposition.{factor, pivot_at, reached, lower, decomp
 use Rattle.factors.proofs.First.{first_is, first-none}
 use Rattle.factors.proofs.Sweep.{left_accepted}
 use Rattle.upper_rows.specs.Rows.{left, filled, RowAnew}
-use Rattle.upper_rows.proofs.Upward.{Upward, left_pivot, upward_more, upward_start}
+use Rattle.upper_rows.proofs.Upward.{Upward, left_pivot, upward_more}
 
 -- rows 0 to i − 1 of the buffer z, that was l, are filled, and their pivots taken
 pub record Rising (f : Format) (n : ℕ) (l z : List Float) (i : ℕ) : Type 0 where
@@ -31,16 +31,6 @@ pub record Rising (f : Format) (n : ℕ) (l z : List Float) (i : ℕ) : Type 0 w
 -- what a call that fills row i leaves, by whether it took the pivot
 abbrev pub row_risen : Format → ℕ → List Float → ℕ → Bool → ℕ → Float
 row_risen f n z i b c = cond b (filled f (cell n z) i c) (cell n z i c)
-
--- before the first turn none is filled
-pub begun : (f : Format) (n : ℕ) (l : List Float) → Rising f n l l 0
-begun f n l = record {
-  within = omega arith;
-  size = refl;
-  past = λ k h. refl;
-  upward = upward_start f n (cell n l);
-  taken = λ k h. absurd (omega arith);
-}
 
 -- a grid in buffers of one length and one rest
 grid-beside :
@@ -97,3 +87,7 @@ module _ {f : Format} {n : ℕ} {l z : List Float} {i : ℕ} (w : Rising f n l z
       ])
       ∙ grid-beside n (lower (factor f e n)) l z fits w.size w.past
       ∙ ap (λ (g : ℕ → ℕ → Float). grid n n g l) (sym (left_accepted f n e all))
+
+  -- what lies past the matrix is as it was
+  pub laid_past : (z' : List Float) (g : ℕ → ℕ → Float) → z' ≡ grid n n g z → (k : ℕ) → n * n ≤ k → get_or z' k nan ≡ get_or l k nan
+  laid_past z' g q k h = ap (λ (x : List Float). get_or x k nan) q ∙ grid_past n n g z k h ∙ w.past k h

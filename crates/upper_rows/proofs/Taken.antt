@@ -1,6 +1,5 @@
--- Row i from the diagonal on, by the two cases of its pivot: the root is stored once the rest of the row is filled with its reciprocal; or nothing is written. Assumes nothing.
-use mathlib.Core.Path.{◌≡◌, refl, sym, ap, ◌∙◌}
-use mathlib.Core.Bool.{true, false}
+-- Row i from the diagonal on, where its pivot is taken: the root is stored once the rest of the row is filled with its reciprocal. Assumes nothing.
+use mathlib.Core.Path.{◌≡◌, sym, ap, ◌∙◌}
 use mathlib.Core.List.{List}
 use Prim.Native.Nat.{ℕ, ◌+◌, ◌*◌, ◌<◌, ◌≤◌}
 use native.Mathlib.Decide.{ℕ_discrete}
@@ -14,9 +13,9 @@ use Rattle.grids.specs.Grid.{cell}
 use Rattle.grids.proofs.Grids.{length_run, run_past}
 use Rattle.factors.specs.Pivots.{pivot_taken}
 use Rattle.pivots.specs.declared.Pivot.{Pivot}
-use Rattle.pivots.specs.declared.Pivot.TheVariants.{Accepted, Refused}
+use Rattle.pivots.specs.declared.Pivot.TheVariants.{Accepted}
 use Rattle.pivots.specs.Pivots.{pivot_of}
-use Rattle.pivots.proofs.Cases.{accepted_is, refused_is}
+use Rattle.pivots.proofs.Cases.{accepted_is}
 use Rattle.upper_rows.specs.Rows.{left, filled, RowAnew}
 use Rattle.upper_rows.proofs.Parts.{part_others, part_past, part_cell, one_cell}
 
@@ -40,21 +39,12 @@ module _ (f : Format) (n i : ℕ) (t₀ : List Float) (hi : i < n) (fits : n * n
         past = λ k h. part_past n i i 1 g t hi (omega arith) k h ∙ w.past k h;
       })
 
-  -- a pivot that is accepted was taken, and the row is filled from the diagonal on
+  -- where the pivot is accepted, the row is filled from the diagonal on
   pub row_taken :
       (s x y : Float) (v : Pivot) (t : List Float) → s ≡ left f (cell n t₀) i i → v ≡ pivot_of f s → v ≡ Accepted x y
       → RowAnew n i (i + 1) (λ c. mul f (left f (cell n t₀) i c) y) t₀ t
-      → (true ≡ pivot_taken (left f (cell n t₀) i i)) × RowAnew n i i (filled f (cell n t₀) i) t₀ (set t (i * n + i) x)
+      → RowAnew n i i (filled f (cell n t₀) i) t₀ (set t (i * n + i) x)
   row_taken s x y v t p a e w =
       let l = left f (cell n t₀) i i in
       let k = accepted_is (pivot_taken l) (sqrt_of f l) (recip_of f (sqrt_of f l)) l x y (ap (pivot_of f) (sym p) ∙ sym a ∙ e) in
-      (sym k.0, with_root x y t k.1 k.2 w)
-
-  -- a pivot that is refused was not, and nothing was written
-  pub row_left :
-      (s x : Float) (v : Pivot) → s ≡ left f (cell n t₀) i i → v ≡ pivot_of f s → v ≡ Refused x
-      → (false ≡ pivot_taken (left f (cell n t₀) i i)) × RowAnew n i i (cell n t₀ i) t₀ t₀
-  row_left s x v p a e =
-      let l = left f (cell n t₀) i i in
-      let k = refused_is (pivot_taken l) (sqrt_of f l) (recip_of f (sqrt_of f l)) l x (ap (pivot_of f) (sym p) ∙ sym a ∙ e) in
-      (sym k.0, record { size = refl; row = λ c le lt. refl; others = λ r c hr hc off. refl; past = λ k h. refl })
+      with_root x y t k.1 k.2 w

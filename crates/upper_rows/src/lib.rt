@@ -38,10 +38,8 @@ fn four_left(n: usize, i: usize, c: usize, t: &[f32]) -> Four
     ensures { Chunk (left binary32 (cell n t.now) i) c result }
 {
     let mut v = side_by_side::read(&*t, i * n + c);
-    let mut k: usize = 0;
-    while k < i {
+    for k in 0..i {
         v = less(v, t[k * n + i], &*t, k * n + c);
-        k += 1;
     }
     v
 }
@@ -52,16 +50,15 @@ fn one_left(n: usize, i: usize, c: usize, t: &[f32]) -> f32
     ensures { result ≡ left binary32 (cell n t.now) i c }
 {
     let mut v = t[i * n + c];
-    let mut k: usize = 0;
-    while k < i {
+    for k in 0..i {
         v = v - t[k * n + i] * t[k * n + c];
-        k += 1;
     }
     v
 }
 
 // Row i right of the diagonal: what is left there, times q. From the right edge on by fours, of which the
-// last may reach past the diagonal, then one by one.
+// last may reach past the diagonal, then one by one. How many fours there are hangs on both of their bounds,
+// so no range counts them.
 fn fill_right(n: usize, i: usize, q: f32, t: &mut [f32])
     requires { (i < n) × (n * n ≤ length t.old) }
     ensures { RowAnew n i (i + 1) (λ c. mul binary32 (left binary32 (cell n t.old) i c) q) t.old t.new }
@@ -72,10 +69,9 @@ fn fill_right(n: usize, i: usize, q: f32, t: &mut [f32])
         let v = side_by_side::scaled(four_left(n, i, c, t), q);
         side_by_side::put(t, i * n + c, v);
     }
-    while i + 1 < c {
-        c -= 1;
-        let v = one_left(n, i, c, t);
-        t[i * n + c] = v * q;
+    for d in (i + 1..c).rev() {
+        let v = one_left(n, i, d, t);
+        t[i * n + d] = v * q;
     }
 }
 
@@ -101,11 +97,9 @@ fn lay_down(n: usize, i: usize, t: &mut [f32])
     requires { (i < n) × (n * n ≤ length t.old) }
     ensures { t.new ≡ grid n n (laid (cell n t.old) i) t.old }
 {
-    let mut c = i + 1;
-    while c < n {
+    for c in i + 1..n {
         t[c * n + i] = t[i * n + c];
         t[i * n + c] = 0.0;
-        c += 1;
     }
 }
 
@@ -118,17 +112,13 @@ pub fn factor_rows(n: usize, t: &mut [f32]) -> usize
     ensures size { length t.new ≡ length t.old }
     ensures past { (k : ℕ) → n * n ≤ k → get_or t.new k nan ≡ get_or t.old k nan }
 {
-    let mut i: usize = 0;
-    while i < n {
+    for i in 0..n {
         if !fill_row(n, i, t) {
             return i;
         }
-        i += 1;
     }
-    let mut j: usize = 0;
-    while j < n {
+    for j in 0..n {
         lay_down(n, j, t);
-        j += 1;
     }
-    i
+    n
 }

@@ -6,20 +6,23 @@ use lists::{Seen, Shape, seen};
 // What the comparison of the line finds. Where it ends before the line does, or is lost, the line is
 // bad.
 pub fn compare(s: &[u8]) -> Seen {
-    let name = letters(s);
-    if s.len() <= name || s[name] != b' ' {
-        return seen::nothing(lines::LOST);
-    }
-    let from = name + 1;
-    let tag = letters(&s[from..]);
-    if tag == 0 {
-        return seen::nothing(lines::LOST);
-    }
-    let j = jobs::job_of(&s[..name]);
-    called(s, from + tag, j)
+    tagged(s).unwrap_or(seen::nothing(lines::LOST))
 }
 
-// The same from the words on.
+// The same, or nothing where the line does not begin with a function's name and a tag.
+fn tagged(s: &[u8]) -> Option<Seen> {
+    let (name, rest) = s.split_at(letters(s));
+    let words = rest.strip_prefix(b" ")?;
+    let tag = letters(words);
+    if tag == 0 {
+        return None;
+    }
+    let job = jobs::job_of(name)?;
+    Some(called(s, name.len() + 1 + tag, job))
+}
+
+// The same from the words on. The calls take different parameters, so that a table would hold a closure
+// around each: these arms.
 fn called(s: &[u8], at: usize, j: Job) -> Seen {
     let h = jobs::shape_of(j);
     match j {
@@ -30,7 +33,6 @@ fn called(s: &[u8], at: usize, j: Job) -> Seen {
         Job::Update => replay_correction::compare(s, at, h, false),
         Job::OneStatePredict => replay_yarn::predict(s, at, h),
         Job::OneStateCorrect => replay_yarn::correct(s, at, h),
-        Job::Unknown => seen::nothing(lines::LOST),
         _ => matrices(s, at, j, h),
     }
 }

@@ -5,28 +5,17 @@
 #![tactic(auto)]
 
 mod line;
-mod stream;
 mod tally;
 
+use list_tally::tally::Tally;
 use std::io;
 
-// 2³² fills of the buffer are more than any list has.
 fn main(rt: HostRuntime) -> io::Result<()> {
     let mut space = [0u8; 131072];
-    let buffer: &mut [u8] = &mut space;
-    let mut input = rt.reader();
-    let mut t = list_tally::tally::empty();
-    let mut kept: usize = 0;
-    let mut turns: u64 = 0x1_0000_0000;
-    while 0 < turns {
-        let fed = stream::feed(&rt, &mut input, t, kept, buffer)?;
-        t = fed.t;
-        kept = fed.kept;
-        if fed.more {
-            turns -= 1;
-        } else {
-            turns = 0;
-        }
-    }
-    list_tally::print::counts(&rt, t)
+    let mut t = Tally::default();
+    refills::feed(&mut rt.reader(), &mut space, |s| {
+        t = tally::add_lines(&rt, t, s)?;
+        Ok(())
+    })?;
+    println!(rt; "{t}")
 }

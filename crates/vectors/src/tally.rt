@@ -2,7 +2,6 @@
 use crate::line;
 use list_tally::print;
 use list_tally::tally::Tally;
-use lists::seen::one_more;
 use std::io;
 
 // The counts with a line more, of which the first ten that differ or are bad are written. An error is one
@@ -14,7 +13,7 @@ pub fn add_line(rt: &impl Print, t: Tally, s: &[u8]) -> io::Result<Tally> {
     let o = line::compare(s);
     if o.next != s.len() {
         if t.told < 10 {
-            print::bad(rt, one_more(t.lines))?;
+            print::bad(rt, t.lines.saturating_add(1))?;
         }
         return Ok(t.bad().tell());
     }
@@ -22,7 +21,7 @@ pub fn add_line(rt: &impl Print, t: Tally, s: &[u8]) -> io::Result<Tally> {
         return Ok(t.call(o));
     }
     if t.told < 10 {
-        print::difference(rt, one_more(t.lines), s, o)?;
+        print::difference(rt, t.lines.saturating_add(1), s, o)?;
     }
     Ok(t.call(o).tell())
 }
@@ -30,11 +29,8 @@ pub fn add_line(rt: &impl Print, t: Tally, s: &[u8]) -> io::Result<Tally> {
 // The counts with all lines of s more. The last line may lack its newline.
 pub fn add_lines(rt: &impl Print, t: Tally, s: &[u8]) -> io::Result<Tally> {
     let mut all = t;
-    let mut at: usize = 0;
-    while at < s.len() {
-        let end = lines::line_end(s, at);
-        all = add_line(rt, all, &s[at..end])?;
-        at = end + 1;
+    for line in s.split_inclusive(|b| *b == b'\n') {
+        all = add_line(rt, all, line.strip_suffix(b"\n").unwrap_or(line))?;
     }
     Ok(all)
 }

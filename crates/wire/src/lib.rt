@@ -3,20 +3,15 @@
 
 use answers::Answer;
 
-// What the wire brings in a step.
+// A reading that arrived: the tension z in cN, and the reading's noise R in cN².
 #[derive(Clone, Copy)]
-pub enum Reading {
-    // The tension in cN, and the reading's noise R in cN².
-    Arrived(f32, f32),
-    // Nothing: the wire was dropped.
-    Lost,
+pub struct Measured {
+    pub z: f32,
+    pub r: f32,
 }
 
-// What became of a step's reading.
-#[derive(Clone, Copy)]
-pub enum Outcome {
-    // None arrived.
-    NoReading,
-    // One did: what the correction answered.
-    Answered(Answer),
-}
+// What the wire brings in a step: a reading, or nothing where the wire was dropped.
+pub type Reading = Option<Measured>;
+
+// What became of a step's reading: what the correction answered, or nothing where none arrived.
+pub type Outcome = Option<Answer>;

@@ -1,3 +1,2 @@
 -- Laws that belong to no one function.
-mod Steps
 pub mod Watching

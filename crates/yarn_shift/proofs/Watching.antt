@@ -3,7 +3,7 @@ use mathlib.Core.Path.{◌≡◌, ap}
 use Prim.Native.Nat.{ℕ, suc, ◌+◌}
 use native.Mathlib.Omega.{arith}
 use Rattle.one_state.specs.declared.OneState.{OneState}
-use Rattle.wire.specs.declared.Reading.{Reading}
+use Rattle.wire.specs.Wire.{Reading}
 use Rattle.yarn_shift.specs.declared.step.Step.{Step}
 use Rattle.yarn_shift.specs.Readings.{reading_in}
 use Rattle.yarn_shift.specs.Step.{advanced, watched}

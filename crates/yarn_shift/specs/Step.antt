@@ -1,12 +1,10 @@
 -- A step of the shift: the prediction, and the correction by a reading where one arrives. Definitions only.
-use Rattle.std.specs.Prelude.{ℕ, zero, suc, Float}
+use Rattle.std.specs.Prelude.{None, Some, ℕ, zero, suc, Float}
 use Rattle.std.specs.Float.{binary32}
 use Rattle.std.specs.Float.Ieee.{of_bits}
 use Rattle.one_state.specs.declared.OneState.{OneState}
 use Rattle.one_state.specs.OneState.{fresh, predicted, corrected, answer_of, handed_back}
-use Rattle.wire.specs.declared.Reading.{Reading}
-use Rattle.wire.specs.declared.Reading.TheVariants.{Arrived, Lost}
-use Rattle.wire.specs.declared.Outcome.TheVariants.{NoReading, Answered}
+use Rattle.wire.specs.Wire.{Reading}
 use Rattle.yarn_shift.specs.declared.step.Step.{Step}
 use Rattle.yarn_shift.specs.Readings.{reading_in}
 
@@ -20,8 +18,8 @@ noisy s r = record { x = s.x; p = s.p; a = s.a; q = s.q; h = s.h; r = r; blind =
 
 -- a step from s with what the wire brings
 abbrev pub advanced : OneState → Reading → Step
-advanced s Lost = record { outcome = NoReading; after = predicted s }
-advanced s (Arrived z r) = let c = corrected (noisy (predicted s) r) z in record { outcome = Answered (answer_of c); after = handed_back c }
+advanced s None = record { outcome = None; after = predicted s }
+advanced s (Some g) = let c = corrected (noisy (predicted s) g.r) g.z in record { outcome = Some (answer_of c); after = handed_back c }
 
 -- the yarn after n steps
 unfoldable pub watched : ℕ → OneState

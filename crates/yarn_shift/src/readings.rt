@@ -2,7 +2,7 @@
 ghost use Rattle.std.specs.Prelude.{◌≡◌};
 ghost use Rattle.yarn_shift.specs.Readings.{reading_in};
 
-use wire::Reading;
+use wire::{Measured, Reading};
 
 // How many steps the shift has.
 pub const STEPS: usize = 10;
@@ -14,16 +14,25 @@ pub fn arriving(step: usize) -> Reading
     ensures { result ≡ reading_in step }
 {
     match step {
-        0 => Reading::Arrived(36.8, 4.0),
-        1 => Reading::Arrived(33.1, 4.0),
-        2 => Reading::Arrived(35.9, 4.0),
-        3 => Reading::Arrived(0.0 / 0.0, 4.0),
-        4 => Reading::Arrived(37.4, 0.0 / 0.0),
-        5 => Reading::Lost,
-        6 => Reading::Arrived(1.0 / 0.0, 4.0),
-        7 => Reading::Arrived(38.3, 4.0),
-        8 => Reading::Arrived(35.1, 4.0),
-        9 => Reading::Arrived(37.0, 4.0),
-        _ => Reading::Lost,
+        0 => Some(Measured { z: 36.8, r: 4.0 }),
+        1 => Some(Measured { z: 33.1, r: 4.0 }),
+        2 => Some(Measured { z: 35.9, r: 4.0 }),
+        3 => Some(Measured {
+            z: f32::NAN,
+            r: 4.0,
+        }),
+        4 => Some(Measured {
+            z: 37.4,
+            r: f32::NAN,
+        }),
+        5 => None,
+        6 => Some(Measured {
+            z: f32::INFINITY,
+            r: 4.0,
+        }),
+        7 => Some(Measured { z: 38.3, r: 4.0 }),
+        8 => Some(Measured { z: 35.1, r: 4.0 }),
+        9 => Some(Measured { z: 37.0, r: 4.0 }),
+        _ => None,
     }
 }

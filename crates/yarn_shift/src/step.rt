@@ -2,9 +2,8 @@
 ghost use Rattle.std.specs.Prelude.{◌≡◌};
 ghost use Rattle.yarn_shift.specs.Step.{at_start, advanced};
 
-use answers::Answer;
 use one_state::{Corrected, OneState};
-use wire::{Outcome, Reading};
+use wire::{Measured, Outcome, Reading};
 
 // A step: what became of the reading, and the yarn after it.
 #[derive(Clone, Copy)]
@@ -26,20 +25,20 @@ pub fn advance(s: OneState, g: Reading) -> Step
 {
     let predicted = s.predict();
     match g {
-        Reading::Lost => Step {
-            outcome: Outcome::NoReading,
+        None => Step {
+            outcome: None,
             after: predicted,
         },
-        Reading::Arrived(z, r) => {
+        Some(Measured { z, r }) => {
             let mut heard = predicted;
             heard.r = r;
             match heard.correct(z) {
                 Corrected::Accepted(after) => Step {
-                    outcome: Outcome::Answered(Answer::Done),
+                    outcome: Some(Ok(())),
                     after,
                 },
                 Corrected::Refused(after, why) => Step {
-                    outcome: Outcome::Answered(why),
+                    outcome: Some(why),
                     after,
                 },
             }

@@ -6,8 +6,6 @@ use borrow.Author.Rules.{rules}
 use Rattle.corrections.proofs.update_cells.Statement.{statement}
 use Rattle.corrections.proofs.update_cells.Tie as tie
 
--- ---- the way back from each step to the one before it
-
 residual_cells-i-requires : tie.Need-residual_cells-i-requires
 residual_cells-i-requires c κs = search rules
 

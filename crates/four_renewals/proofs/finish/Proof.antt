@@ -2,7 +2,9 @@
 use mathlib.Core.Path.{refl, sym, ap, ◌∙◌}
 use mathlib.Core.Bool.{Bool, cond}
 use native.Mathlib.Omega.{arith}
-use Rattle.answers.specs.declared.Answer.TheVariants.{Done, NotFinite}
+use Rattle.answers.specs.Answers.{Answer}
+use Rattle.std.proofs.Common.{Ok, Err}
+use Rattle.answers.specs.declared.Refusal.TheVariants.{NotFinite}
 use Rattle.grids.specs.Grid.{run}
 use Rattle.four_renewals.proofs.Finished.{finished}
 use Rattle.four_renewals.proofs.finish.Statement.{statement}
@@ -12,14 +14,14 @@ returns-then-is_fine : tie.Need-returns-then-is_fine
 unfolding run
 returns-then-is_fine c =
     finished _ _ _ _ _ _ _ _ _ c.gain_of-gain.ensures c.spread_of-t.ensures c.lessen-n.ensures c.move_by-w.ensures
-    Done _ _ (ap (λ (t : Bool). cond t Done NotFinite) (sym c.if-is_fine.true ∙ c.is_fine.ensures))
+    (Ok tt) _ _ (ap (λ (t : Bool). cond {A = Answer} t (Ok tt) (Err NotFinite)) (sym c.if-is_fine.true ∙ c.is_fine.ensures))
     c.put.ensures c.put_eight.ensures c.put_eight-2.ensures c.put_sixteen.ensures c.put-then-is_fine.ensures c.put_sixteen-then-is_fine.ensures
 
 returns : tie.Need-returns
 unfolding run
 returns c =
     finished _ _ _ _ _ _ _ _ _ c.gain_of-gain.ensures c.spread_of-t.ensures c.lessen-n.ensures c.move_by-w.ensures
-    NotFinite _ _ (ap (λ (t : Bool). cond t Done NotFinite) (sym c.if-is_fine.false ∙ c.is_fine.ensures))
+    (Err NotFinite) _ _ (ap (λ (t : Bool). cond {A = Answer} t (Ok tt) (Err NotFinite)) (sym c.if-is_fine.false ∙ c.is_fine.ensures))
     c.put.ensures c.put_eight.ensures c.put_eight-2.ensures c.put_sixteen.ensures refl refl
 
 pub finish_spec : {M : Type 1} → statement M

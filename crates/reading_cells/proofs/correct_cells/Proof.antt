@@ -6,8 +6,8 @@ use native.Mathlib.Omega.{arith}
 use borrow.Author.Tests.{eqb-true}
 use lib.ListN.{length}
 use lib.Ieee.{binary32}
-use Rattle.answers.specs.declared.Answer.{Answer}
-use Rattle.answers.specs.declared.Answer.TheVariants.{Done}
+use Rattle.std.proofs.Common.{Ok}
+use Rattle.answers.specs.Answers.{Answer}
 use Rattle.grids.specs.Grid.{cell, run}
 use Rattle.entries.specs.Entries.{numbers}
 use Rattle.filters.specs.Correction.{innovation_of}
@@ -51,7 +51,7 @@ abbrev Left : tie.Start → Answer → Buffers → ℕ → ℕ → Type 0
 Left s v e k l =
     let a = s.args in
     (e.y ≡ run 0 l (innovation_of binary32 k (cell k a.h.now) (numbers a.x.now) (numbers a.z.now)) a.y.now)
-    × Renewed binary32 k l Done v (with_y (lent s) e.y) e
+    × Renewed binary32 k l (Ok tt) v (with_y (lent s) e.y) e
 
 left : (s : tie.Start) (k l : ℕ) {v : Answer} {e : Buffers} → s.args.n ≡ k → s.args.m ≡ l → Left s v e k l → Left s v e s.args.n s.args.m
 left s k l {v} {e} p q h = subst (Left s v e s.args.n) (sym q) (subst (λ (i : ℕ). Left s v e i l) (sym p) h)

@@ -3,7 +3,7 @@ use mathlib.Core.Path.{sym, subst}
 use mathlib.Core.List.{[]}
 use Prim.Native.Nat.{ℕ}
 use lib.Ieee.{binary32}
-use Rattle.answers.specs.declared.Answer.TheVariants.{Done}
+use Rattle.std.proofs.Common.{Ok}
 use Rattle.filters.specs.Lent.{buffers, Held}
 use Rattle.filters.specs.Corrected.{Renewed}
 use borrow.Author.Rules.{rules}
@@ -20,7 +20,7 @@ returns-then-m-eq3 : tie.Need-returns-then-m-eq3
 returns-then-m-eq3 c =
     let a = c.args in
     let l = c.update_three.new in
-    subst (λ (i : ℕ). Renewed binary32 a.n i Done c.update_three.result (buffers a.x.now a.p.now a.h.now [] a.r.now a.y.now a.s.now a.k.now a.temp_s_inv.now a.temp_hp.now a.temp_pht.now a.temp_khp.now)
+    subst (λ (i : ℕ). Renewed binary32 a.n i (Ok tt) c.update_three.result (buffers a.x.now a.p.now a.h.now [] a.r.now a.y.now a.s.now a.k.now a.temp_s_inv.now a.temp_hp.now a.temp_pht.now a.temp_khp.now)
     (buffers l.x l.p a.h.now [] a.r.now a.y.now l.s l.k l.temp_s_inv l.temp_hp l.temp_pht l.temp_khp)) (sym c.if-m-eq3.true) c.update_three.ensures
 
 pub update_cells_spec : {M : Type 1} → statement M

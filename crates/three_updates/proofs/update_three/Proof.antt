@@ -19,8 +19,6 @@ kept i l old new h q = q ∙ simp (lt-ltb i 3 h)
 written : (i : ℕ) (l old new : List Float) → 3 ≤ i → l ≡ cond (ltb i 3) old new → l ≡ new
 written i l old new h q = q ∙ simp (le-ltb i 3 h)
 
--- ---- the way back from each step to the one before it
-
 gain_three-i-requires : tie.Need-gain_three-i-requires
 gain_three-i-requires c κs = search rules
 

@@ -3,7 +3,8 @@
 use mathlib.Core.Path.{sym, ap, ◌∙◌}
 use borrow.Author.Rules.{rules}
 use lib.Ieee.{binary32, of_bits}
-use Rattle.answers.specs.declared.Answer.TheVariants.{Pivot, NotFinite}
+use Rattle.std.proofs.Common.{Err}
+use Rattle.answers.specs.declared.Refusal.TheVariants.{Pivot, NotFinite}
 use Rattle.one_state.specs.declared.OneState.{OneState}
 use Rattle.one_state.specs.declared.Corrected.TheVariants.{Refused}
 use Rattle.one_state.proofs.Cases.{refuses, refused, goes_through, comes_back_x, comes_back_p}
@@ -43,7 +44,7 @@ unfolding of_bits
 returns-else-is_finite c =
     let m = c.args in
     let step = sym c.pivot_of.ensures ∙ c.in-Accepted.is in
-    ap (λ (s : OneState). Refused s NotFinite) c.blinded.ensures
+    ap (λ (s : OneState). Refused s (Err NotFinite)) c.blinded.ensures
     ∙ elim c.else-is_finite.branch [
       | else-is_finite-via-then-is_finite+else-is_finite-2 w ↦ comes_back_p m.self m.z _ _ step _ _ c.is_finite.ensures w.is_finite-then-is_finite.ensures w.if-is_finite.true w.if-is_finite-2.false
       | else-is_finite-via-else-is_finite w ↦ comes_back_x m.self m.z _ _ step _ c.is_finite.ensures w.if-is_finite.false
@@ -53,7 +54,7 @@ returns-in-Refused : tie.Need-returns-in-Refused
 unfolding of_bits
 returns-in-Refused c =
     let m = c.args in
-    ap (λ (s : OneState). Refused s (Pivot 0)) c.blinded-in-Refused.ensures
+    ap (λ (s : OneState). Refused s (Err (Pivot 0))) c.blinded-in-Refused.ensures
     ∙ sym (refused m.self m.z (refuses binary32 _ _ (sym c.pivot_of.ensures ∙ c.in-Refused.is)))
 
 pub correct_spec : {M : Type 1} → statement M

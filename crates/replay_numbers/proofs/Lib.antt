@@ -1,2 +1,0 @@
--- The law of both functions.
-mod Number

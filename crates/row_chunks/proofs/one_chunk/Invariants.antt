@@ -1,0 +1,9 @@
+-- k of the terms of each of the four entries are added up.
+use Rattle.std.proofs.Common.{◌+◌, ◌*◌}
+use Rattle.std.specs.Float.{binary32}
+use Rattle.grids.specs.Grid.{cell}
+use Rattle.entries.proofs.Totals.{AddingFour}
+use Rattle.row_chunks.proofs.one_chunk.Given as goal
+
+abbrev pub invariant-loop-k : goal.invariant-loop-k
+invariant-loop-k l = AddingFour binary32 (cell l.inner l.a l.r) l.b (λ i k. k * l.cols + i) l.inner 0 l.t.t0 l.t.t1 l.t.t2 l.t.t3 l.k
