@@ -77,8 +77,11 @@ compare_lists() {
     if has nm; then
         nm -g "$archive" | sed -n 's/.* T //p' | sort >"$out/exported"
         same_lists "the archive exports these and nothing else" "$out/names" "$out/exported"
+        nm -u "$archive" | awk 'NF == 2 { print $2 }' | sort -u >"$out/taken"
+        echo memset >"$out/allowed"
+        same_lists "of C's functions the archive takes memset alone" "$out/allowed" "$out/taken"
     else
-        skip "what the archive exports: no nm"
+        skip "what the archive exports and what it takes: no nm"
     fi
 }
 

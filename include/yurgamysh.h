@@ -26,11 +26,11 @@
    allocates, fails to return, or keeps a pointer; two threads may call at the same time, each with its
    own written buffers, records and counts.
 
-   Stack that a call takes, its parameters included, as measured on x86-64: a prediction 1.3 kB at
-   n = 1, 4 and 16, a correction 0.9 kB at n = m = 1 and 2.3 kB at n = m = 4 and 16. With an earlier kit
-   (5b) a call of the one-state record, or of a row of them, took 0.1 kB, and the reading or the writing
-   of a card 0.3 kB. On Arm, before some sizes had lines of their own, a prediction took 1.4 kB and a
-   correction 2.0 kB.
+   Stack that a call takes, its parameters included, as measured on x86-64: a prediction 0.2 kB at
+   n = 1 and 4 and 1.4 kB at most, a correction 0.9 kB at n = m = 1 and 2.3 kB at most (a kB has 1,024
+   bytes). With an earlier kit (5b) a call of the one-state record, or of a row of them, took 0.1 kB, and
+   the reading or the writing of a card 0.3 kB. On Arm, before some sizes had lines of their own, a
+   prediction took 1.4 kB and a correction 2.0 kB.
 
    The answer is one number: 0 where the call did its work, else 100 times the refusal's number plus
    what it carries. yurgamysh_answer_of and yurgamysh_carried_by take it apart.

@@ -96,11 +96,15 @@ fn add_line(rt: &impl Print, v: Cases, s: &[u8], base: &mut [u8]) -> io::Result<
     Ok(Cases { t, ..v })
 }
 
-// The counts with all lines of s more. The last line may lack its newline.
+// The counts with all lines of s more. The last line may lack its newline. The loop goes by positions, since
+// `LineEnd`, which holds where a line ends, speaks of them.
 pub fn add_lines(rt: &impl Print, v: Cases, s: &[u8], base: &mut [u8]) -> io::Result<Cases> {
     let mut all = v;
-    for line in s.split_inclusive(|b| *b == b'\n') {
-        all = add_line(rt, all, line.strip_suffix(b"\n").unwrap_or(line), base)?;
+    let mut at: usize = 0;
+    while at < s.len() {
+        let end = lines::line_end(s, at);
+        all = add_line(rt, all, &s[at..end], base)?;
+        at = end + 1;
     }
     Ok(all)
 }

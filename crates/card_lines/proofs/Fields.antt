@@ -119,6 +119,10 @@ ended d t = by (field d newline t) refl
     by true h = sym (ap (entries_first d 1) (apart d 9 t h) ∙ last d (take d t) (drop (suc d) t) (whole d 9 t h) (tests d 9 t h).0)
     by false h = wrong d 1 newline t (right_last d t) h
 
+-- a field that is there lies within the card
+pub field_fits : (d b : ℕ) (t : List ℕ) → field d (suc b) t ≡ true → suc d ≤ length t
+field_fits = room
+
 -- ---- entries that are read: where each of them stands, and what it says
 
 -- entries with commas between, and a newline behind them, are as many fields

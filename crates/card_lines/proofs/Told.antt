@@ -1,12 +1,25 @@
 -- What the functions' results tell: the first line is right or wrong, what it holds, and what stands behind it. Assumes nothing.
 use mathlib.Core.Path.{◌≡◌, refl, ap}
-use mathlib.Core.Bool.{Bool, true, false, cond}
+use mathlib.Core.Bool.{Bool, true, false, cond, and-eq-true_iff}
 use mathlib.Core.List.{List}
 use Prim.Native.Nat.{ℕ}
 use Rattle.std.specs.Prelude.{Some, None}
-use Rattle.card_text.specs.Lines.{behind_line}
-use Rattle.card_text.specs.Card.{count_line, count_of, entries_line}
+use Rattle.card_text.specs.Lines.{ends, first_line, behind_line}
+use Rattle.card_text.specs.Values.{begins, is_count, are_entries as entries_are}
+use Rattle.card_text.specs.Card.{keyed, value_of, count_line, count_of, entries_line}
 use Rattle.card_lines.specs.Front.{counted, found}
+
+-- a line that is right has its key, and is ended
+pub keyed-ends : (key t : List ℕ) → keyed key t ≡ true → ends t ≡ true
+keyed-ends key t h = ((and-eq-true_iff (ends t) (begins key (first_line t))).0 h).0
+
+pub count_keyed : (key t : List ℕ) → count_line key t ≡ true → keyed key t ≡ true
+unfolding count_line
+count_keyed key t h = ((and-eq-true_iff (keyed key t) (is_count (value_of key t))).0 h).0
+
+pub entries-keyed : (d k : ℕ) (key t : List ℕ) → entries_line d key k t ≡ true → keyed key t ≡ true
+unfolding entries_line
+entries-keyed d k key t h = ((and-eq-true_iff (keyed key t) (entries_are d k (value_of key t))).0 h).0
 
 -- the test y was passed, or was not, and x is what it was to find
 passed : {A : Type 0} (y : Bool) (x z : A) → Some z ≡ cond y (Some x) None → (y ≡ true) × (z ≡ x)

@@ -14,12 +14,12 @@ use Rattle.card_text.proofs.Keys.{begins_is, keyed_by, value_by, keyed-begins}
 use Rattle.card_text.proofs.Entries.{entries-length, entries-front, past}
 use Rattle.card_lines.specs.Front.{fields}
 use Rattle.card_lines.proofs.Fields.{entries-fields}
+use Rattle.card_lines.proofs.Told.{entries-keyed}
 use Rattle.cards.proofs.Filling.{part}
 
 module _ (d k : ℕ) (key t : List ℕ) (plain : ends key ≡ false) (right : entries_line d key k t ≡ true) where
   keyed-line : keyed key t ≡ true
-  unfolding entries_line
-  keyed-line = ((and-eq-true_iff (keyed key t) (are_entries d k (value_of key t))).0 right).0
+  keyed-line = entries-keyed d k key t right
 
   begun : begins key t ≡ true
   begun = keyed-begins key t keyed-line

@@ -12,13 +12,16 @@ pub fn fill_cells(n: usize, m: &mut [f32], x: f32)
     m[..n].fill(x);
 }
 
-// The first n cells of from in the first n cells of to.
-#[tactic(auto, using(grids::proofs::Fronts::front_copied))]
+// The first n cells of from in the first n cells of to. One by one: `copy_from_slice` becomes a call of
+// memmove, and of C's functions the library takes `memset` alone.
+#[tactic(auto, using(grids::proofs::Grids::run_none, grids::proofs::Grids::run_more))]
 pub fn copy_cells(n: usize, from: &[f32], to: &mut [f32])
     requires { (n ≤ length from.now) × (n ≤ length to.old) }
     ensures { to.new ≡ run 0 n (λ i. get_or from.now i nan) to.old }
 {
-    to[..n].copy_from_slice(&from[..n]);
+    for i in 0..n {
+        to[i] = from[i];
+    }
 }
 
 // A column of a rows by cols matrix in the first rows cells of to.

@@ -9,7 +9,8 @@ ghost use Rattle.filters.specs.Corrected.{Renewed};
 use answers::{Answer, Refusal};
 
 // The update from the y that is lent: done, the pivot that is refused, or 9 where the new x or P is not
-// all finite.
+// all finite. A call of its own, whose numbers take no stack in a correction of another kind.
+#[inline(never)]
 pub fn update_cells(
     n: usize,
     m: usize,

@@ -4,7 +4,9 @@ ghost use Rattle.std.specs.Float.{binary32};
 ghost use Rattle.grids.specs.Grid.{run, grid};
 ghost use Rattle.filters.specs.Prediction.{predicted_x, temp_p, predicted_p};
 
-// predicted_x = A·x, copied to x, and P anew: A·x by the turned A that the second product of P has.
+// predicted_x = A·x, copied to x, and P anew: A·x by the turned A that the second product of P has. A call of
+// its own, whose array takes no stack where there are fewer states.
+#[inline(never)]
 pub fn predict_wide(
     n: usize,
     x: &mut [f32],

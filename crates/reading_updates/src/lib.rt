@@ -10,7 +10,9 @@ ghost use Rattle.filters.specs.Corrected.{Renewed};
 use answers::Answer;
 
 // The update from the y that is lent: done, the pivot that is refused, or 9 where the new x or P is not
-// all finite.
+// all finite. Compiled into its caller, and neither update into it: so the stack of the one never stands
+// below the other's.
+#[inline(always)]
 pub fn update_cells(
     n: usize,
     m: usize,

@@ -10,7 +10,8 @@ ghost use Rattle.filters.specs.Corrected.{Renewed};
 use answers::{Answer, Refusal};
 
 // The update from the y that is lent: done, the pivot that is refused, or 9 where the new x or P is not
-// all finite.
+// all finite. A call of its own, whose arrays take no stack where there are not three observations.
+#[inline(never)]
 pub fn update_three(
     n: usize,
     x: &mut [f32],

@@ -26,11 +26,15 @@ pub fn add_line(rt: &impl Print, t: Tally, s: &[u8]) -> io::Result<Tally> {
     Ok(t.call(o).tell())
 }
 
-// The counts with all lines of s more. The last line may lack its newline.
+// The counts with all lines of s more. The last line may lack its newline. The loop goes by positions, since
+// `LineEnd`, which holds where a line ends, speaks of them.
 pub fn add_lines(rt: &impl Print, t: Tally, s: &[u8]) -> io::Result<Tally> {
     let mut all = t;
-    for line in s.split_inclusive(|b| *b == b'\n') {
-        all = add_line(rt, all, line.strip_suffix(b"\n").unwrap_or(line))?;
+    let mut at: usize = 0;
+    while at < s.len() {
+        let end = lines::line_end(s, at);
+        all = add_line(rt, all, &s[at..end])?;
+        at = end + 1;
     }
     Ok(all)
 }

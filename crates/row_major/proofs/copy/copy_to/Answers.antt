@@ -9,7 +9,10 @@ overflow_mul-rows c =
     let a = c.args in let s = pair_fits a.rows a.cols (length a.m.now) (length a.target.now) c.in_ok-pair.ensures refl refl in omega arith
 
 pub copy_cells-requires : goal.copy_cells-requires
-copy_cells-requires c = (pair_fits _ _ _ _ c.in_ok-pair.ensures refl refl).both_hold
+copy_cells-requires c =
+    let a = c.args in
+    let s = pair_fits a.rows a.cols (length a.m.now) (length a.target.now) c.in_ok-pair.ensures refl refl in
+    (omega (arith, s.both_hold.0), omega (arith, s.both_hold.1))
 
 pub returns : goal.returns
 returns c = record { answer = c.in_ok-pair.ensures; after = c.copy_cells.ensures ∙ sym (grid_flat _ _ _ _) }

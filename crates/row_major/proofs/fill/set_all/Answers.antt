@@ -9,7 +9,8 @@ overflow_mul-rows c =
     let s = matrix_fits c.args.rows c.args.cols (length c.args.m.now) c.in_ok-matrix.ensures refl refl in omega arith
 
 pub fill_cells-requires : goal.fill_cells-requires
-fill_cells-requires c = (matrix_fits _ _ _ c.in_ok-matrix.ensures refl refl).holds
+fill_cells-requires c =
+    let s = matrix_fits c.args.rows c.args.cols (length c.args.m.now) c.in_ok-matrix.ensures refl refl in omega (arith, s.holds)
 
 pub returns : goal.returns
 returns c = record { answer = c.in_ok-matrix.ensures; after = c.fill_cells.ensures ∙ sym (grid_flat _ _ _ _) }
